@@ -1,0 +1,10 @@
+pub mod Limits
+pub mod Bits
+pub mod Items
+pub mod Formulas
+pub mod Columns
+pub mod Deals
+pub mod Placement
+pub mod Meeting
+pub mod Texts
+pub mod Words
