@@ -1,9 +1,10 @@
 -- The words of a command line: their forms, and what they say.
 use Rattle.std.specs.Prelude.{ℕ, ◌+◌, ◌^◌, ◌==◌, ◌&&◌, Bool, not, List, [], ◌∷◌, length, Option, Some, None, nat_lt, nat_le, slice_get, unwrap_or, codes, if◌then◌else◌}
+use Rattle.std.specs.Char.{is_ascii_digit}
 use Rattle.std.specs.List.{list_all}
 use Rattle.std.specs.Option.{option_map_or}
 use Rattle.std.specs.Result.{result_unwrap_or}
-use Rattle.std.specs.Str.{bytes_eq, all_ascii_digits}
+use Rattle.std.specs.Str.{bytes_eq}
 use Rattle.std.specs.Str.Parse.{digits_value}
 use Rattle.hex.specs.Hex.{decode_of, is_hex_digit}
 
@@ -21,7 +22,7 @@ seed_of word = result_unwrap_or (decode_of word) []
 
 -- 1 to `most` decimal digits
 abbrev pub are_digits : ℕ → List ℕ → Bool
-are_digits most word = nat_le 1 (length word) && (nat_le (length word) most && all_ascii_digits word)
+are_digits most word = nat_le 1 (length word) && (nat_le (length word) most && list_all is_ascii_digit word)
 
 -- the number that decimal digits spell
 abbrev pub number_of : List ℕ → ℕ
