@@ -1,1 +1,4 @@
 pub mod Xor
+pub mod Packing
+pub mod Sizes
+pub mod Tags
