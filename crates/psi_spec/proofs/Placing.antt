@@ -1,0 +1,95 @@
+-- Items in their slots: the word of each item's row, and the placement of items in the stash.
+use Rattle.std.proofs.Common.{◌≡◌, ◌+◌, ◌-◌, ◌<◌, ◌≤◌, ◌≢◌, inl, inr, ⊎_elim, ℕ, suc, zero, Bool, true, false, cond, List, [], ◌∷◌, length, map, get_or, Contains, Some, None, nat_eq, slice_get, refl, sym, ap, ◌∙◌, subst, arith, eq-eqb}
+use Rattle.std.specs.List.{AllZip, AllByRecursion, IsDistinct}
+use Rattle.std.proofs.lemmas.Bool.{ne_eqb}
+use Rattle.std.proofs.lemmas.Map.Keys.{IsDistinct-cons, IsDistinct-head, IsDistinct-tail}
+use Rattle.psi_spec.specs.Bits.{zero_word}
+use Rattle.psi_spec.specs.Formulas.{bin, code, item_digest}
+use Rattle.psi_spec.specs.Placement.{Slot, MayHave, IsPlacement, IsPlacementOf, candidates_of, stash_slots}
+use Rattle.psi_spec.specs.Meeting.{Placed, placed_of, row_word}
+
+-- ---- items and their slots
+
+pub items_of-placed_of : (items : List (List ℕ)) (slots : List Slot) → length items ≡ length slots → map (λ p. p.item) (placed_of items slots) ≡ items
+items_of-placed_of [] slots l = refl
+items_of-placed_of (x ∷ items) [] l = absurd (omega arith)
+items_of-placed_of (x ∷ items) (slot ∷ slots) l = ap (λ (rest : List (List ℕ)). x ∷ rest) (items_of-placed_of items slots (omega arith))
+
+pub slots_of-placed_of : (items : List (List ℕ)) (slots : List Slot) → length items ≡ length slots → map (λ p. p.slot) (placed_of items slots) ≡ slots
+slots_of-placed_of [] [] l = refl
+slots_of-placed_of [] (slot ∷ slots) l = absurd (omega arith)
+slots_of-placed_of (x ∷ items) [] l = absurd (omega arith)
+slots_of-placed_of (x ∷ items) (slot ∷ slots) l = ap (λ (rest : List Slot). slot ∷ rest) (slots_of-placed_of items slots (omega arith))
+
+pub length-placed_of : (items : List (List ℕ)) (slots : List Slot) → length items ≡ length slots → length (placed_of items slots) ≡ length items
+length-placed_of [] slots l = refl
+length-placed_of (x ∷ items) [] l = absurd (omega arith)
+length-placed_of (x ∷ items) (slot ∷ slots) l = ap suc (length-placed_of items slots (omega arith))
+
+-- ---- the words of rows
+
+-- no two placed items have one row
+abbrev pub AreApart : List Placed → Type 0
+AreApart placed = IsDistinct nat_eq (map (λ slot. slot.row) (map (λ p. p.slot) placed))
+
+differs_from_later : (row : ℕ) (placed : List Placed) (p : Placed) → AllByRecursion (λ y. nat_eq row y ≡ false) (map (λ slot. slot.row) (map (λ p. p.slot) placed)) → Contains placed p → nat_eq row p.slot.row ≡ false
+differs_from_later row [] p all (k, l, e) = absurd (omega arith)
+differs_from_later row (q ∷ placed) p all (zero, l, e) = subst (λ (z : Placed). nat_eq row z.slot.row ≡ false) e all.0
+differs_from_later row (q ∷ placed) p all (suc k, l, e) = differs_from_later row placed p all.1 (k, omega arith, e)
+
+-- the word of a placed item's row is its code
+pub row_word_of_placed : (key : List ℕ) (placed : List Placed) (p : Placed) → AreApart placed → Contains placed p → row_word key placed p.slot.row ≡ code key p.slot.index (item_digest p.item)
+row_word_of_placed key [] p apart (k, l, e) = absurd (omega arith)
+row_word_of_placed key (q ∷ placed) p apart (zero, l, e) =
+    subst (λ (z : Placed). row_word key (q ∷ placed) z.slot.row ≡ code key z.slot.index (item_digest z.item)) e
+    (let same : nat_eq q.slot.row q.slot.row ≡ true = eq-eqb q.slot.row q.slot.row refl in rw same refl)
+row_word_of_placed key (q ∷ placed) p apart (suc k, l, e) =
+    let later : Contains placed p = (k, omega arith, e) in
+    let rows : List ℕ = map (λ slot. slot.row) (map (λ (p : Placed). p.slot) placed) in
+    let differs : nat_eq q.slot.row p.slot.row ≡ false = differs_from_later q.slot.row placed p (IsDistinct-head nat_eq q.slot.row rows apart) later in
+    rw differs (row_word_of_placed key placed p (IsDistinct-tail nat_eq q.slot.row rows apart) later)
+
+-- ---- what an item's slot is
+
+bin_from_candidate : (key : List ℕ) (bins : ℕ) (digest : List ℕ) (j index row : ℕ) → suc j ≡ index → slice_get (bin key bins 1 digest ∷ bin key bins 2 digest ∷ bin key bins 3 digest ∷ []) j ≡ Some row → bin key bins index digest ≡ row
+bin_from_candidate key bins digest zero index row e h = ap (λ (i : ℕ). bin key bins i digest) (sym e) ∙ cc
+bin_from_candidate key bins digest (suc zero) index row e h = ap (λ (i : ℕ). bin key bins i digest) (sym e) ∙ cc
+bin_from_candidate key bins digest (suc (suc zero)) index row e h = ap (λ (i : ℕ). bin key bins i digest) (sym e) ∙ cc
+bin_from_candidate key bins digest (suc (suc (suc j))) index row e h = cc
+
+-- a slot that is not of the stash is the item's own bin
+pub bin_of_slot : (stash : ℕ) (key : List ℕ) (bins : ℕ) (item : List ℕ) (slot : Slot) → MayHave stash bins (candidates_of key bins item) slot → 0 < slot.index → bin key bins slot.index (item_digest item) ≡ slot.row
+bin_of_slot stash key bins item slot (inl h) l = absurd (omega arith)
+bin_of_slot stash key bins item slot (inr h) l = bin_from_candidate key bins (item_digest item) (slot.index - 1) slot.index slot.row (omega arith) h.1
+
+-- a placed item may have its slot
+pub may_have_of_placed : (stash : ℕ) (key : List ℕ) (bins : ℕ) (placed : List Placed) (p : Placed) → AllZip (MayHave stash bins) (map (candidates_of key bins) (map (λ p. p.item) placed)) (map (λ p. p.slot) placed) → Contains placed p → MayHave stash bins (candidates_of key bins p.item) p.slot
+may_have_of_placed stash key bins [] p each (k, l, e) = absurd (omega arith)
+may_have_of_placed stash key bins (q ∷ placed) p each (zero, l, e) = subst (λ (z : Placed). MayHave stash bins (candidates_of key bins z.item) z.slot) e each.0
+may_have_of_placed stash key bins (q ∷ placed) p each (suc k, l, e) = may_have_of_placed stash key bins placed p each.1 (k, omega arith, e)
+
+-- ---- the stash
+
+pub length-stash_slots : (row n : ℕ) → length (stash_slots row n) ≡ n
+length-stash_slots row zero = refl
+length-stash_slots row (suc n) = ap suc (length-stash_slots (row + 1) n)
+
+rows_from : (low row n : ℕ) → low < row → AllByRecursion (λ y. nat_eq low y ≡ false) (map (λ slot. slot.row) (stash_slots row n))
+rows_from low row zero l = tt
+rows_from low row (suc n) l = (ne_eqb low row (λ e. omega arith), rows_from low (row + 1) n (omega arith))
+
+pub stash_slots_apart : (row n : ℕ) → IsDistinct nat_eq (map (λ slot. slot.row) (stash_slots row n))
+unfolding IsDistinct
+stash_slots_apart row zero = tt
+stash_slots_apart row (suc n) = (rows_from row (row + 1) n (omega arith), stash_slots_apart (row + 1) n)
+
+pub stash_slots_each : (stash bins row : ℕ) (candidates : List (List ℕ)) → bins ≤ row → row + length candidates ≤ bins + stash → AllZip (MayHave stash bins) candidates (stash_slots row (length candidates))
+stash_slots_each stash bins row [] low high = tt
+stash_slots_each stash bins row (c ∷ candidates) low high = (inl (refl, low, omega arith), stash_slots_each stash bins (row + 1) candidates (omega arith) (omega arith))
+
+-- items that the stash can hold are placed there
+pub stash_slots_placement : (stash bins : ℕ) (candidates : List (List ℕ)) → length candidates ≤ stash → IsPlacement stash bins candidates (stash_slots bins (length candidates))
+stash_slots_placement stash bins candidates l = record {
+  each = stash_slots_each stash bins bins candidates (omega arith) (omega arith);
+  apart = stash_slots_apart bins (length candidates);
+}
