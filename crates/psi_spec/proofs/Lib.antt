@@ -5,3 +5,5 @@ pub mod Tags
 pub mod Lists
 pub mod Placing
 pub mod Meeting
+pub mod KeyStream
+pub mod Dealing
