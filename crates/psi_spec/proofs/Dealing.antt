@@ -1,15 +1,14 @@
 -- The sizes of dealt pairs, and the setup that they make.
-use Rattle.std.proofs.Common.{◌≡◌, ◌+◌, ◌-◌, ◌*◌, ◌/◌, ◌<◌, ◌≤◌, ℕ, suc, zero, Bool, true, false, cond, All, List, [], ◌∷◌, length, map, take, drop, nat_eq, get_or, slice_get, Some, refl, sym, ap, ◌∙◌, subst, arith}
+use Rattle.std.proofs.Common.{◌≡◌, ◌+◌, ◌*◌, ◌<◌, ◌≤◌, ℕ, suc, zero, All, List, [], ◌∷◌, length, map, take, drop, slice_get, Some, refl, sym, ap, ◌∙◌, subst, arith}
 use Rattle.std.specs.List.{AllByRecursion}
-use Rattle.std.proofs.lemmas.List.{length-drop, length-map, length-take-le, drop-drop, get_or-map}
+use Rattle.std.proofs.lemmas.List.{length-drop, length-map, length-take-le, drop-drop}
 use Rattle.std.proofs.lemmas.List.Elements.{All-from_recursion}
 use Rattle.std.proofs.lemmas.Slice.Zip.{AllZip-long}
 use Rattle.psi_spec.specs.Limits.{bins_for, rows_for}
-use Rattle.psi_spec.specs.Bits.{bit_of}
-use Rattle.psi_spec.specs.Columns.{key_stream, column}
+use Rattle.psi_spec.specs.Columns.{column}
 use Rattle.psi_spec.specs.Deals.{SeedPair, ReceiverDeal, SenderDeal, seed_pairs, chosen_from, deal_bytes, dealt_receiver, dealt_sender, zero_columns, one_columns}
 use Rattle.psi_spec.specs.Placement.{Slot, MayHave, IsPlacementOf, candidates_of, stash_slots}
-use Rattle.psi_spec.specs.Meeting.{Setup, IsSetup, placed_of, setup_of}
+use Rattle.psi_spec.specs.Meeting.{IsSetup, placed_of, setup_of}
 use Rattle.psi_spec.specs.Laws.{DealsShowCommon, StashShowsCommon}
 use Rattle.psi_spec.proofs.KeyStream.{length-key_stream}
 use Rattle.psi_spec.proofs.Meeting.{shows_common}
@@ -124,8 +123,8 @@ placed_setup stash receiver sender items slots seeds choice placement =
       choice = choice;
       columns = length-zero_columns receiver (rows_for stash (length items)) ∙ seeds;
       placed =
-        subst (λ (xs : List (List ℕ)). IsPlacementOf stash receiver.key (bins_for (length items)) xs (map (λ p. p.slot) (placed_of items slots))) (sym (items_of-placed_of items slots long))
-        (subst (IsPlacementOf stash receiver.key (bins_for (length items)) items) (sym (slots_of-placed_of items slots long)) placement);
+          subst (λ (xs : List (List ℕ)). IsPlacementOf stash receiver.key (bins_for (length items)) xs (map (λ p. p.slot) (placed_of items slots))) (sym (items_of-placed_of items slots long))
+          (subst (IsPlacementOf stash receiver.key (bins_for (length items)) items) (sym (slots_of-placed_of items slots long)) placement);
     }
 
 -- a placement of the items makes a setup of a dealt pair

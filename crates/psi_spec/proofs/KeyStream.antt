@@ -1,5 +1,5 @@
 -- The key stream and the columns: their sizes, and bits that don't depend on how much was asked for.
-use Rattle.std.proofs.Common.{◌≡◌, ◌+◌, ◌-◌, ◌*◌, ◌/◌, ◌%◌, ◌^◌, ◌<◌, ◌≤◌, ℕ, suc, zero, Bool, true, false, cond, List, [], ◌++◌, length, take, get_or, set, nat_eq, refl, sym, ap, ◌∙◌, subst, arith, ⊎_elim}
+use Rattle.std.proofs.Common.{◌≡◌, ◌+◌, ◌-◌, ◌*◌, ◌/◌, ◌%◌, ◌^◌, ◌<◌, ◌≤◌, ℕ, suc, zero, Bool, true, false, cond, List, [], ◌++◌, length, take, get_or, set, nat_eq, refl, sym, ap, ◌∙◌, arith, ⊎_elim}
 use Rattle.std.specs.Int.{w32, bit_at, to_le_bytes}
 use Rattle.std.proofs.lemmas.Bool.{cases_eq, eqb-true, eqb-false}
 use Rattle.std.proofs.lemmas.List.{append-nil, append_assoc, length-append, length-set, length-take-le, take-take, take-append-le, get_or-take, get_or_past, get_or-set_same, get_or-set_other}
@@ -89,6 +89,7 @@ bit_of-cleared rows bytes j l long = by_case (nat_eq (rows % 8) 0)
   where
     byte : ℕ
     byte = get_or bytes (rows / 8) 0 % 2 ^ (rows % 8)
+
     by_case : (b : Bool) → bit_of (cond b bytes (set bytes (rows / 8) byte)) j ≡ bit_of bytes j
     by_case true = refl
     by_case false = ⊎_elim
@@ -105,12 +106,13 @@ bit_of-cleared_above rows bytes j l long = by_case (nat_eq (rows % 8) 0) refl
   where
     byte : ℕ
     byte = get_or bytes (rows / 8) 0 % 2 ^ (rows % 8)
+
     by_case : (b : Bool) → nat_eq (rows % 8) 0 ≡ b → bit_of (cond b bytes (set bytes (rows / 8) byte)) j ≡ 0
     by_case true whole = let r : rows % 8 ≡ 0 = eqb-true (rows % 8) 0 whole in bit_of_past bytes j (omega arith)
     by_case false part = ⊎_elim
         (λ (e : j / 8 ≡ rows / 8).
-          let r : rows % 8 ≡ 0 → ⊥ = eqb-false (rows % 8) 0 part in
-          last_bit rows bytes j e (omega arith) ∙ bit_at_cleared (get_or bytes (rows / 8) 0) (rows % 8) (j % 8) (omega arith))
+        let r : rows % 8 ≡ 0 → ⊥ = eqb-false (rows % 8) 0 part in
+        last_bit rows bytes j e (omega arith) ∙ bit_at_cleared (get_or bytes (rows / 8) 0) (rows % 8) (j % 8) (omega arith))
         (λ (ne : j / 8 ≡ rows / 8 → ⊥). bit_of_past (set bytes (rows / 8) byte) j (omega (arith, length-set bytes (rows / 8) byte)))
         (cases_eq (j / 8) (rows / 8))
 

@@ -1,13 +1,12 @@
 -- A common item meets itself, and what is shown shares its tag with the item that it names.
-use Rattle.std.proofs.Common.{◌≡◌, ◌*◌, ◌<◌, ◌≤◌, ℕ, suc, zero, Bool, true, false, cond, List, length, map, filter, find, Contains, Some, nat_eq, refl, sym, ap, ◌∙◌, subst, arith, eq-eqb, ⊎_elim, inl, inr}
+use Rattle.std.proofs.Common.{◌≡◌, ℕ, suc, zero, true, false, cond, List, length, map, Contains, nat_eq, refl, sym, ap, ◌∙◌, subst, arith}
 use Rattle.std.specs.List.{list_any}
-use Rattle.std.specs.Str.{bytes_eq}
 use Rattle.std.proofs.lemmas.Bool.{ne_eqb}
 use Rattle.psi_spec.specs.Bits.{xor, both}
 use Rattle.psi_spec.specs.Formulas.{item_digest, code, bin, tag}
 use Rattle.psi_spec.specs.Columns.{row_of}
 use Rattle.psi_spec.specs.Placement.{Slot, MayHave, candidates_of}
-use Rattle.psi_spec.specs.Meeting.{Placed, Setup, IsSetup, row_word, own_tag, peer_tag, peer_row, meets, is_shown, shown_placed, shown, named, SharesTag, ShowsCommon}
+use Rattle.psi_spec.specs.Meeting.{Placed, Setup, IsSetup, row_word, own_tag, peer_tag, peer_row, meets, is_shown, shown_placed, shown, SharesTag, ShowsCommon}
 use Rattle.psi_spec.proofs.Xor.{xor_masked_self}
 use Rattle.psi_spec.proofs.Packing.{length-row_of}
 use Rattle.psi_spec.proofs.Sizes.{length-code}
@@ -22,8 +21,8 @@ peer_row_of_own stash s item slot may = by_index slot.index refl
     by_index : (index : ℕ) → index ≡ slot.index → cond (nat_eq index 0) slot.row (bin s.key s.bins index (item_digest item)) ≡ slot.row
     by_index zero e = refl
     by_index (suc i) e =
-      let never : nat_eq (suc i) 0 ≡ false = ne_eqb (suc i) 0 (λ h. omega arith) in
-      rw never (ap (λ (n : ℕ). bin s.key s.bins n (item_digest item)) e ∙ bin_of_slot stash s.key s.bins item slot may (omega arith))
+        let never : nat_eq (suc i) 0 ≡ false = ne_eqb (suc i) 0 (λ h. omega arith) in
+        rw never (ap (λ (n : ℕ). bin s.key s.bins n (item_digest item)) e ∙ bin_of_slot stash s.key s.bins item slot may (omega arith))
 
 -- the peer tag of an item's own code at its row is the own tag
 pub peer_tag_of_own : (stash : ℕ) (s : Setup) (p : Placed) → IsSetup stash s → Contains s.placed p → peer_tag s p.slot.index p.slot.row p.item ≡ own_tag s p.slot

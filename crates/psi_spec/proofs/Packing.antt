@@ -1,5 +1,5 @@
 -- What the bits of packed bits are, and what a row of columns holds.
-use Rattle.std.proofs.Common.{◌≡◌, ◌≢◌, ◌+◌, ◌-◌, ◌*◌, ◌/◌, ◌%◌, ◌^◌, ◌<◌, ◌≤◌, ℕ, suc, zero, List, [], ◌∷◌, ◌++◌, length, map, take, drop, get_or, refl, sym, ap, ◌∙◌, subst, arith, ⊎_elim}
+use Rattle.std.proofs.Common.{◌≡◌, ◌+◌, ◌-◌, ◌*◌, ◌/◌, ◌%◌, ◌^◌, ◌<◌, ◌≤◌, ℕ, suc, zero, List, [], ◌∷◌, ◌++◌, length, map, drop, get_or, refl, sym, ap, ◌∙◌, subst, arith, ⊎_elim}
 use Rattle.std.specs.Int.{bit_at}
 use Rattle.std.proofs.lemmas.Bool.{cases_lt}
 use Rattle.std.proofs.lemmas.List.{get_or_past, get_or-drop, get_or-map, length-drop, length-map, ext_get_or, drop-drop}
@@ -69,10 +69,10 @@ bit_of-bytes_of (suc n) bits two l j =
     ⊎_elim
     (λ (m : j < 8). bit_of-first (byte_of bits) (bytes_of n (drop 8 bits)) j m ∙ bit_at-byte_of bits j two m)
     (λ (m : 8 ≤ j). let e : j ≡ 8 + (j - 8) = omega arith in
-      let rest : bit_of (bytes_of n (drop 8 bits)) (j - 8) ≡ get_or bits j 0 =
-          bit_of-bytes_of n (drop 8 bits) (AreBits-drop 8 bits two) (omega (arith, length-drop 8 bits)) (j - 8)
-          ∙ (get_or-drop 8 bits (j - 8) 0 ∙ ap (λ (k : ℕ). get_or bits k 0) (sym e)) in
-      subst (λ (k : ℕ). bit_of (byte_of bits ∷ bytes_of n (drop 8 bits)) k ≡ get_or bits j 0) (sym e) (bit_of-rest (byte_of bits) (bytes_of n (drop 8 bits)) (j - 8) ∙ rest))
+    let rest : bit_of (bytes_of n (drop 8 bits)) (j - 8) ≡ get_or bits j 0 =
+    bit_of-bytes_of n (drop 8 bits) (AreBits-drop 8 bits two) (omega (arith, length-drop 8 bits)) (j - 8)
+    ∙ (get_or-drop 8 bits (j - 8) 0 ∙ ap (λ (k : ℕ). get_or bits k 0) (sym e)) in
+    subst (λ (k : ℕ). bit_of (byte_of bits ∷ bytes_of n (drop 8 bits)) k ≡ get_or bits j 0) (sym e) (bit_of-rest (byte_of bits) (bytes_of n (drop 8 bits)) (j - 8) ∙ rest))
     (cases_lt j 8)
 
 pub AreBytes-bytes_of : (n : ℕ) (bits : List ℕ) → AreBits bits → AreBytes (bytes_of n bits)
@@ -84,9 +84,9 @@ AreBytes-bytes_of (suc n) bits two (suc i) = AreBytes-bytes_of n (drop 8 bits) (
 pub same_from_bits_of : (a b : List ℕ) → length a ≡ length b → AreBytes a → AreBytes b → ((j : ℕ) → j < 8 * length a → bit_of a j ≡ bit_of b j) → a ≡ b
 same_from_bits_of a b l ha hb same =
     ext_get_or 0 a b l (λ i m. same_from_bits_below 8 (get_or a i 0) (get_or b i 0) (ha i) (hb i)
-      (λ k n. let q : (i * 8 + k) / 8 ≡ i = omega arith in let r : (i * 8 + k) % 8 ≡ k = omega arith in
-        let e : bit_of a (i * 8 + k) ≡ bit_of b (i * 8 + k) = same (i * 8 + k) (omega arith) in
-        rw (q, r) at e))
+    (λ k n. let q : (i * 8 + k) / 8 ≡ i = omega arith in let r : (i * 8 + k) % 8 ≡ k = omega arith in
+    let e : bit_of a (i * 8 + k) ≡ bit_of b (i * 8 + k) = same (i * 8 + k) (omega arith) in
+    rw (q, r) at e))
 
 -- ---- packed bits
 
@@ -118,8 +118,8 @@ get_or-bits_at columns j c =
     ⊎_elim
     (λ (l : c < length columns). get_or-map (λ column. bit_of column j) columns c [] 0 l)
     (λ (l : length columns ≤ c).
-      get_or_past (bits_at columns j) c 0 (omega (arith, length-map columns (λ column. bit_of column j)))
-      ∙ sym (ap (λ (column : List ℕ). bit_of column j) (get_or_past columns c [] l) ∙ bit_at-zero (j % 8)))
+    get_or_past (bits_at columns j) c 0 (omega (arith, length-map columns (λ column. bit_of column j)))
+    ∙ sym (ap (λ (column : List ℕ). bit_of column j) (get_or_past columns c [] l) ∙ bit_at-zero (j % 8)))
     (cases_lt c (length columns))
 
 pub AreBits-bits_at : (columns : List (List ℕ)) (j : ℕ) → AreBits (bits_at columns j)

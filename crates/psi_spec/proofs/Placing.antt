@@ -1,11 +1,10 @@
 -- Items in their slots: the word of each item's row, and the placement of items in the stash.
-use Rattle.std.proofs.Common.{◌≡◌, ◌+◌, ◌-◌, ◌<◌, ◌≤◌, ◌≢◌, inl, inr, ⊎_elim, ℕ, suc, zero, Bool, true, false, cond, List, [], ◌∷◌, length, map, get_or, Contains, Some, None, nat_eq, slice_get, refl, sym, ap, ◌∙◌, subst, arith, eq-eqb}
+use Rattle.std.proofs.Common.{◌≡◌, ◌+◌, ◌-◌, ◌<◌, ◌≤◌, inl, inr, ℕ, suc, zero, true, false, List, [], ◌∷◌, length, map, Contains, Some, nat_eq, slice_get, refl, sym, ap, ◌∙◌, subst, arith, eq-eqb}
 use Rattle.std.specs.List.{AllZip, AllByRecursion, IsDistinct}
 use Rattle.std.proofs.lemmas.Bool.{ne_eqb}
-use Rattle.std.proofs.lemmas.Map.Keys.{IsDistinct-cons, IsDistinct-head, IsDistinct-tail}
-use Rattle.psi_spec.specs.Bits.{zero_word}
+use Rattle.std.proofs.lemmas.Map.Keys.{IsDistinct-head, IsDistinct-tail}
 use Rattle.psi_spec.specs.Formulas.{bin, code, item_digest}
-use Rattle.psi_spec.specs.Placement.{Slot, MayHave, IsPlacement, IsPlacementOf, candidates_of, stash_slots}
+use Rattle.psi_spec.specs.Placement.{Slot, MayHave, IsPlacement, candidates_of, stash_slots}
 use Rattle.psi_spec.specs.Meeting.{Placed, placed_of, row_word}
 
 -- ---- items and their slots

@@ -1,6 +1,5 @@
 -- Comparing padded tags is comparing tags.
 use Rattle.std.proofs.Common.{◌≡◌, ◌-◌, ℕ, true, List, ◌++◌, replicate, ap}
-use Rattle.std.specs.Bool.{Decides}
 use Rattle.std.specs.Str.{bytes_eq}
 use Rattle.std.proofs.lemmas.Bool.Decides.{same_from_decides, Decides-like}
 use Rattle.std.proofs.lemmas.List.{append_cancel_right}

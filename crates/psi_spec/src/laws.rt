@@ -5,12 +5,10 @@ ghost use Rattle.psi_spec.specs.Laws.{SetupsShowCommon, DealsShowCommon, StashSh
 /// Each item that both ends have is shown, and each item that is shown shares its tag with the item that it names.
 pub fn shows_common()
     ensures { SetupsShowCommon }
-{
-}
+{}
 
 /// The same for the two deals of any seed: at any placement of the receiver's items, and in the stash alone where it has a row for each of them.
 pub fn deals_show_common()
     ensures placed { DealsShowCommon }
     ensures stash { StashShowsCommon }
-{
-}
+{}
