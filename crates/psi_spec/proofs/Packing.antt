@@ -36,6 +36,15 @@ bit_of-first x xs j l = let q : j / 8 ≡ 0 = omega arith in let r : j % 8 ≡ j
 bit_of-rest : (x : ℕ) (xs : List ℕ) (j : ℕ) → bit_of (x ∷ xs) (8 + j) ≡ bit_of xs j
 bit_of-rest x xs j = let q : (8 + j) / 8 ≡ suc (j / 8) = omega arith in let r : (8 + j) % 8 ≡ j % 8 = omega arith in rw (q, r) refl
 
+-- the byte of the eight bits from a place on
+pub byte_of-drop : (m : ℕ) (bits : List ℕ) → byte_of (drop m bits) ≡ get_or bits m 0 + 2 * get_or bits (m + 1) 0 + 4 * get_or bits (m + 2) 0 + 8 * get_or bits (m + 3) 0 + 16 * get_or bits (m + 4) 0 + 32 * get_or bits (m + 5) 0 + 64 * get_or bits (m + 6) 0 + 128 * get_or bits (m + 7) 0
+byte_of-drop m bits =
+    let first : get_or (drop m bits) 0 0 ≡ get_or bits m 0 = get_or-drop m bits 0 0 ∙ ap (λ (k : ℕ). get_or bits k 0) (add-zero m) in
+    omega (arith, first, get_or-drop m bits 1 0, get_or-drop m bits 2 0, get_or-drop m bits 3 0, get_or-drop m bits 4 0, get_or-drop m bits 5 0, get_or-drop m bits 6 0, get_or-drop m bits 7 0)
+  where
+    add-zero : (k : ℕ) → k + 0 ≡ k
+    add-zero k = omega arith
+
 -- ---- bytes of bits
 
 AreBits-drop : (n : ℕ) (bits : List ℕ) → AreBits bits → AreBits (drop n bits)
@@ -138,6 +147,10 @@ AreBytes-row_of columns j = AreBytes-packed (bits_at columns j) (AreBits-bits_at
 pub row_of_whole : (n : ℕ) (columns : List (List ℕ)) (j : ℕ) → length columns ≡ 8 * n → row_of columns j ≡ bytes_of n (bits_at columns j)
 unfolding row_of
 row_of_whole n columns j l = packed_whole n (bits_at columns j) (length-map columns (λ column. bit_of column j) ∙ l)
+
+-- byte k of a row is made of the bits of eight columns
+pub get_or-row_of : (n : ℕ) (columns : List (List ℕ)) (j k : ℕ) → length columns ≡ 8 * n → k < n → get_or (row_of columns j) k 0 ≡ byte_of (drop (8 * k) (bits_at columns j))
+get_or-row_of n columns j k l within = ap (λ (bytes : List ℕ). get_or bytes k 0) (row_of_whole n columns j l) ∙ get_or-bytes_of n k (bits_at columns j) within
 
 pub length-row_of : (n : ℕ) (columns : List (List ℕ)) (j : ℕ) → length columns ≡ 8 * n → length (row_of columns j) ≡ n
 length-row_of n columns j l = ap length (row_of_whole n columns j l) ∙ length-bytes_of n (bits_at columns j)

@@ -1,11 +1,15 @@
 -- Items in their slots: the word of each item's row, and the placement of items in the stash.
-use Rattle.std.proofs.Common.{◌≡◌, ◌+◌, ◌-◌, ◌<◌, ◌≤◌, inl, inr, ℕ, suc, zero, true, false, List, [], ◌∷◌, length, map, Contains, Some, nat_eq, slice_get, refl, sym, ap, ◌∙◌, subst, arith, eq-eqb}
+use Rattle.std.proofs.Common.{◌≡◌, ◌≢◌, ◌+◌, ◌-◌, ◌<◌, ◌≤◌, inl, inr, ℕ, suc, zero, Bool, true, false, cond, List, [], ◌∷◌, ◌++◌, length, map, take, get_or, Contains, Some, nat_eq, slice_get, refl, sym, ap, ◌∙◌, subst, arith, eq-eqb}
 use Rattle.std.specs.List.{AllZip, AllByRecursion, IsDistinct}
-use Rattle.std.proofs.lemmas.Bool.{ne_eqb}
+use Rattle.std.proofs.lemmas.Bool.{ne_eqb, eqb-true, false≢true}
+use Rattle.std.proofs.lemmas.List.Elements.{Contains-get_or}
 use Rattle.std.proofs.lemmas.Map.Keys.{IsDistinct-head, IsDistinct-tail}
+use Rattle.psi_spec.specs.Bits.{zero_word}
 use Rattle.psi_spec.specs.Formulas.{bin, code, item_digest}
 use Rattle.psi_spec.specs.Placement.{Slot, MayHave, IsPlacement, candidates_of, stash_slots}
 use Rattle.psi_spec.specs.Meeting.{Placed, placed_of, row_word}
+use Rattle.psi_spec.proofs.Lists.{Contains-here, Contains-later}
+use Rattle.psi_spec.proofs.Sizes.{length-zero_word, length-code}
 
 -- ---- items and their slots
 
@@ -25,7 +29,34 @@ length-placed_of [] slots l = refl
 length-placed_of (x ∷ items) [] l = absurd (omega arith)
 length-placed_of (x ∷ items) (slot ∷ slots) l = ap suc (length-placed_of items slots (omega arith))
 
+pub get_or-placed_of : (items : List (List ℕ)) (slots : List Slot) (i : ℕ) (x : List ℕ) (slot : Slot) (d : Placed) → i < length items → i < length slots → get_or (placed_of items slots) i d ≡ record { item = get_or items i x; slot = get_or slots i slot }
+get_or-placed_of [] slots i x slot d l m = absurd (omega arith)
+get_or-placed_of (y ∷ items) [] i x slot d l m = absurd (omega arith)
+get_or-placed_of (y ∷ items) (s ∷ slots) zero x slot d l m = refl
+get_or-placed_of (y ∷ items) (s ∷ slots) (suc i) x slot d l m = get_or-placed_of items slots i x slot d (omega arith) (omega arith)
+
+pub take-placed_of : (n : ℕ) (items : List (List ℕ)) (slots : List Slot) → take n (placed_of items slots) ≡ placed_of (take n items) (take n slots)
+take-placed_of zero items slots = refl
+take-placed_of (suc n) [] slots = refl
+take-placed_of (suc n) (x ∷ items) [] = refl
+take-placed_of (suc n) (x ∷ items) (slot ∷ slots) = ap (λ (rest : List Placed). record { item = x; slot = slot } ∷ rest) (take-placed_of n items slots)
+
 -- ---- the words of rows
+
+pub length-row_word : (key : List ℕ) (placed : List Placed) (row : ℕ) → length (row_word key placed row) ≡ 64
+length-row_word key [] row = length-zero_word
+length-row_word key (p ∷ placed) row = by_case (nat_eq p.slot.row row) (length-row_word key placed row)
+  where
+    by_case : (b : Bool) → length (row_word key placed row) ≡ 64 → length (cond b (code key p.slot.index (item_digest p.item)) (row_word key placed row)) ≡ 64
+    by_case true later = length-code key p.slot.index (item_digest p.item)
+    by_case false later = later
+
+-- the word of a row at which no item is placed
+pub row_word_of_none : (key : List ℕ) (placed : List Placed) (row : ℕ) → ((p : Placed) → Contains placed p → p.slot.row ≢ row) → row_word key placed row ≡ zero_word
+row_word_of_none key [] row none = refl
+row_word_of_none key (p ∷ placed) row none =
+    let differs : nat_eq p.slot.row row ≡ false = ne_eqb p.slot.row row (none p (Contains-here p placed)) in
+    rw differs (row_word_of_none key placed row (λ q h. none q (Contains-later p placed q h)))
 
 -- no two placed items have one row
 abbrev pub AreApart : List Placed → Type 0
@@ -47,6 +78,28 @@ row_word_of_placed key (q ∷ placed) p apart (suc k, l, e) =
     let rows : List ℕ = map (λ slot. slot.row) (map (λ (p : Placed). p.slot) placed) in
     let differs : nat_eq q.slot.row p.slot.row ≡ false = differs_from_later q.slot.row placed p (IsDistinct-head nat_eq q.slot.row rows apart) later in
     rw differs (row_word_of_placed key placed p (IsDistinct-tail nat_eq q.slot.row rows apart) later)
+
+row_word_step : (b e : Bool) (c d a a' : List ℕ) → a ≡ cond b c a' → (b ≡ true → e ≡ false) → cond e d a ≡ cond b c (cond e d a')
+row_word_step true true c d a a' h apart = absurd (false≢true (sym (apart refl)))
+row_word_step true false c d a a' h apart = h
+row_word_step false true c d a a' h apart = refl
+row_word_step false false c d a a' h apart = h
+
+-- one more placed item, as at a step of a loop
+pub row_word-more : (key : List ℕ) (placed : List Placed) (i : ℕ) (d : Placed) (row : ℕ) → AreApart placed → i < length placed
+    → row_word key (take (i + 1) placed) row ≡ cond (nat_eq (get_or placed i d).slot.row row) (code key (get_or placed i d).slot.index (item_digest (get_or placed i d).item)) (row_word key (take i placed) row)
+row_word-more key [] i d row apart l = absurd (omega arith)
+row_word-more key (p ∷ placed) zero d row apart l = refl
+row_word-more key (p ∷ placed) (suc i) d row apart l =
+    let q : Placed = get_or placed i d in
+    let rows : List ℕ = map (λ slot. slot.row) (map (λ (p : Placed). p.slot) placed) in
+    let count : suc i + 1 ≡ suc (i + 1) = omega arith in
+    let within : i < length placed = omega arith in
+    let differs : nat_eq p.slot.row q.slot.row ≡ false = differs_from_later p.slot.row placed q (IsDistinct-head nat_eq p.slot.row rows apart) (Contains-get_or placed i d within) in
+    ap (λ (n : ℕ). row_word key (take n (p ∷ placed)) row) count
+    ∙ row_word_step (nat_eq q.slot.row row) (nat_eq p.slot.row row) (code key q.slot.index (item_digest q.item)) (code key p.slot.index (item_digest p.item)) (row_word key (take (i + 1) placed) row) (row_word key (take i placed) row)
+    (row_word-more key placed i d row (IsDistinct-tail nat_eq p.slot.row rows apart) within)
+    (λ same. ap (nat_eq p.slot.row) (sym (eqb-true q.slot.row row same)) ∙ differs)
 
 -- ---- what an item's slot is
 
@@ -72,6 +125,23 @@ may_have_of_placed stash key bins (q ∷ placed) p each (suc k, l, e) = may_have
 pub length-stash_slots : (row n : ℕ) → length (stash_slots row n) ≡ n
 length-stash_slots row zero = refl
 length-stash_slots row (suc n) = ap suc (length-stash_slots (row + 1) n)
+
+pub get_or-stash_slots : (row n i : ℕ) (d : Slot) → i < n → get_or (stash_slots row n) i d ≡ record { row = row + i; index = 0 }
+get_or-stash_slots row zero i d l = absurd (omega arith)
+get_or-stash_slots row (suc n) zero d l = let e : row ≡ row + 0 = omega arith in ap (λ (r : ℕ). record { row = r; index = 0 }) e
+get_or-stash_slots row (suc n) (suc i) d l =
+    let e : row + 1 + i ≡ row + suc i = omega arith in
+    get_or-stash_slots (row + 1) n i d (omega arith) ∙ ap (λ (r : ℕ). record { row = r; index = 0 }) e
+
+-- one more slot, as at a step of a loop
+pub stash_slots-more : (row n : ℕ) → stash_slots row (n + 1) ≡ stash_slots row n ++ record { row = row + n; index = 0 } ∷ []
+stash_slots-more row zero = let e : row ≡ row + 0 = omega arith in ap (λ (r : ℕ). record { row = r; index = 0 } ∷ []) e
+stash_slots-more row (suc n) =
+    let count : suc n + 1 ≡ suc (n + 1) = omega arith in
+    let e : row + 1 + n ≡ row + suc n = omega arith in
+    ap (stash_slots row) count
+    ∙ (ap (λ (rest : List Slot). record { row = row; index = 0 } ∷ rest) (stash_slots-more (row + 1) n)
+    ∙ ap (λ (r : ℕ). record { row = row; index = 0 } ∷ stash_slots (row + 1) n ++ record { row = r; index = 0 } ∷ []) e)
 
 rows_from : (low row n : ℕ) → low < row → AllByRecursion (λ y. nat_eq low y ≡ false) (map (λ slot. slot.row) (stash_slots row n))
 rows_from low row zero l = tt
