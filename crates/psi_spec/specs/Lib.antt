@@ -8,3 +8,4 @@ pub mod Placement
 pub mod Meeting
 pub mod Texts
 pub mod Words
+pub mod Laws

@@ -1,0 +1,9 @@
+pub mod Xor
+pub mod Packing
+pub mod Sizes
+pub mod Tags
+pub mod Lists
+pub mod Placing
+pub mod Meeting
+pub mod KeyStream
+pub mod Dealing

@@ -1,0 +1,68 @@
+-- Elements of mapped and filtered lists, and the first one that passes a test.
+use Rattle.std.proofs.Common.{◌≡◌, suc, zero, Bool, true, false, cond, ◌||◌, List, [], ◌∷◌, map, filter, find, Contains, Some, refl, ap, ◌∙◌, subst, arith}
+use Rattle.std.specs.List.{list_any}
+use Rattle.std.proofs.lemmas.Bool.{false≢true}
+
+pub Contains-here : {A : Type 0} (x : A) (xs : List A) → Contains (x ∷ xs) x
+Contains-here x xs = (zero, omega arith, refl)
+
+pub Contains-later : {A : Type 0} (y : A) (xs : List A) (x : A) → Contains xs x → Contains (y ∷ xs) x
+Contains-later y xs x h = (suc h.0, omega arith, h.2)
+
+module _ {A : Type 0} where
+  -- an element of a mapped list is the value at an element
+  pub Contains-from_map : {B : Type 0} (f : A → B) (xs : List A) (y : B) → Contains (map f xs) y → (x : A) × Contains xs x × (f x ≡ y)
+  Contains-from_map f [] y (k, l, e) = absurd (omega arith)
+  Contains-from_map f (x ∷ xs) y (zero, l, e) = (x, Contains-here x xs, e)
+  Contains-from_map f (x ∷ xs) y (suc k, l, e) =
+      let found = Contains-from_map f xs y (k, omega arith, e) in
+      (found.0, Contains-later x xs found.0 found.1, found.2)
+
+  pub Contains-map : {B : Type 0} (f : A → B) (xs : List A) (x : A) → Contains xs x → Contains (map f xs) (f x)
+  Contains-map f [] x (k, l, e) = absurd (omega arith)
+  Contains-map f (y ∷ xs) x (zero, l, e) = (zero, omega arith, ap f e)
+  Contains-map f (y ∷ xs) x (suc k, l, e) = Contains-later (f y) (map f xs) (f x) (Contains-map f xs x (k, omega arith, e))
+
+  Contains-filter_step : (b : Bool) (y x : A) (xs : List A) → Contains xs x → Contains (cond b (y ∷ xs) xs) x
+  Contains-filter_step true y x xs h = Contains-later y xs x h
+  Contains-filter_step false y x xs h = h
+
+  pub Contains-filter : (test : A → Bool) (xs : List A) (x : A) → Contains xs x → test x ≡ true → Contains (filter test xs) x
+  Contains-filter test [] x (k, l, e) passes = absurd (omega arith)
+  Contains-filter test (y ∷ xs) x (zero, l, e) passes =
+      let here : test y ≡ true = ap test e ∙ passes in
+      rw here (zero, omega arith, e)
+  Contains-filter test (y ∷ xs) x (suc k, l, e) passes = Contains-filter_step (test y) y x (filter test xs) (Contains-filter test xs x (k, omega arith, e) passes)
+
+  Contains-from_cons : (y : A) (xs : List A) (x : A) (P : A → Type 0) → P y → (Contains xs x → P x) → Contains (y ∷ xs) x → P x
+  Contains-from_cons y xs x P here later (zero, l, e) = subst P e here
+  Contains-from_cons y xs x P here later (suc k, l, e) = later (k, omega arith, e)
+
+  from_filter_step : (test : A → Bool) (y x : A) (xs rest : List A) (b : Bool) → test y ≡ b → (Contains rest x → Contains xs x × (test x ≡ true)) → Contains (cond b (y ∷ rest) rest) x → Contains (y ∷ xs) x × (test x ≡ true)
+  from_filter_step test y x xs rest true passes below h =
+      Contains-from_cons y rest x (λ (z : A). Contains (y ∷ xs) z × (test z ≡ true)) (Contains-here y xs, passes) (λ c. (Contains-later y xs x (below c).0, (below c).1)) h
+  from_filter_step test y x xs rest false fails below h = (Contains-later y xs x (below h).0, (below h).1)
+
+  -- an element of a filtered list is an element of the list, and passes
+  pub Contains-from_filter : (test : A → Bool) (xs : List A) (x : A) → Contains (filter test xs) x → Contains xs x × (test x ≡ true)
+  Contains-from_filter test [] x (k, l, e) = absurd (omega arith)
+  Contains-from_filter test (y ∷ xs) x h = from_filter_step test y x xs (filter test xs) (test y) refl (Contains-from_filter test xs x) h
+
+  pub list_any-from_passing : (test : A → Bool) (xs : List A) (x : A) → Contains xs x → test x ≡ true → list_any test xs ≡ true
+  list_any-from_passing test [] x (k, l, e) passes = absurd (omega arith)
+  list_any-from_passing test (y ∷ xs) x (zero, l, e) passes = let here : test y ≡ true = ap test e ∙ passes in rw here refl
+  list_any-from_passing test (y ∷ xs) x (suc k, l, e) passes = or_true (test y) (list_any test xs) (list_any-from_passing test xs x (k, omega arith, e) passes)
+    where
+      or_true : (b c : Bool) → c ≡ true → (b || c) ≡ true
+      or_true true c e = refl
+      or_true false c e = e
+
+  find_step : (test : A → Bool) (y : A) (xs : List A) (b : Bool) → test y ≡ b → (list_any test xs ≡ true → (x : A) × (find test xs ≡ Some x) × Contains xs x × (test x ≡ true)) → (b || list_any test xs) ≡ true
+      → (x : A) × (cond b (Some y) (find test xs) ≡ Some x) × Contains (y ∷ xs) x × (test x ≡ true)
+  find_step test y xs true e later h = (y, refl, Contains-here y xs, e)
+  find_step test y xs false e later h = let found = later h in (found.0, found.1, Contains-later y xs found.0 found.2, found.3)
+
+  -- a test that some element passes has a first element that passes
+  pub find-from_list_any : (test : A → Bool) (xs : List A) → list_any test xs ≡ true → (x : A) × (find test xs ≡ Some x) × Contains xs x × (test x ≡ true)
+  find-from_list_any test [] h = absurd (false≢true h)
+  find-from_list_any test (y ∷ xs) h = find_step test y xs (test y) refl (find-from_list_any test xs) h

@@ -1,0 +1,162 @@
+-- What the bits of packed bits are, and what a row of columns holds.
+use Rattle.std.proofs.Common.{◌≡◌, ◌+◌, ◌-◌, ◌*◌, ◌/◌, ◌%◌, ◌^◌, ◌<◌, ◌≤◌, ℕ, suc, zero, List, [], ◌∷◌, ◌++◌, length, map, drop, get_or, refl, sym, ap, ◌∙◌, subst, arith, ⊎_elim}
+use Rattle.std.specs.Int.{bit_at}
+use Rattle.std.proofs.lemmas.Bool.{cases_lt}
+use Rattle.std.proofs.lemmas.List.{get_or_past, get_or-drop, get_or-map, length-drop, length-map, ext_get_or, drop-drop}
+use Rattle.std.proofs.lemmas.Nat.Bits.{bit_at-lt, bit_at-zero, same_from_bits_below}
+use Rattle.psi_spec.specs.Bits.{bit_of, byte_of, bytes_of, packed}
+use Rattle.psi_spec.specs.Columns.{row_of}
+
+abbrev pub AreBits : List ℕ → Type 0
+AreBits bits = (i : ℕ) → get_or bits i 0 < 2
+
+abbrev pub AreBytes : List ℕ → Type 0
+AreBytes bytes = (i : ℕ) → get_or bytes i 0 < 2 ^ 8
+
+-- ---- a byte of bits
+
+pub bit_at-byte_of : (bits : List ℕ) (i : ℕ) → AreBits bits → i < 8 → bit_at (byte_of bits) i ≡ get_or bits i 0
+bit_at-byte_of bits zero two l = omega (arith, two 0, two 1, two 2, two 3, two 4, two 5, two 6, two 7)
+bit_at-byte_of bits (suc zero) two l = omega (arith, two 0, two 1, two 2, two 3, two 4, two 5, two 6, two 7)
+bit_at-byte_of bits (suc (suc zero)) two l = omega (arith, two 0, two 1, two 2, two 3, two 4, two 5, two 6, two 7)
+bit_at-byte_of bits (suc (suc (suc zero))) two l = omega (arith, two 0, two 1, two 2, two 3, two 4, two 5, two 6, two 7)
+bit_at-byte_of bits (suc (suc (suc (suc zero)))) two l = omega (arith, two 0, two 1, two 2, two 3, two 4, two 5, two 6, two 7)
+bit_at-byte_of bits (suc (suc (suc (suc (suc zero))))) two l = omega (arith, two 0, two 1, two 2, two 3, two 4, two 5, two 6, two 7)
+bit_at-byte_of bits (suc (suc (suc (suc (suc (suc zero)))))) two l = omega (arith, two 0, two 1, two 2, two 3, two 4, two 5, two 6, two 7)
+bit_at-byte_of bits (suc (suc (suc (suc (suc (suc (suc zero))))))) two l = omega (arith, two 0, two 1, two 2, two 3, two 4, two 5, two 6, two 7)
+bit_at-byte_of bits (suc (suc (suc (suc (suc (suc (suc (suc i)))))))) two l = absurd (omega arith)
+
+pub byte_of-lt : (bits : List ℕ) → AreBits bits → byte_of bits < 2 ^ 8
+byte_of-lt bits two = omega (arith, two 0, two 1, two 2, two 3, two 4, two 5, two 6, two 7)
+
+-- the bits of the first byte, and those of the rest
+bit_of-first : (x : ℕ) (xs : List ℕ) (j : ℕ) → j < 8 → bit_of (x ∷ xs) j ≡ bit_at x j
+bit_of-first x xs j l = let q : j / 8 ≡ 0 = omega arith in let r : j % 8 ≡ j = omega arith in rw (q, r) refl
+
+bit_of-rest : (x : ℕ) (xs : List ℕ) (j : ℕ) → bit_of (x ∷ xs) (8 + j) ≡ bit_of xs j
+bit_of-rest x xs j = let q : (8 + j) / 8 ≡ suc (j / 8) = omega arith in let r : (8 + j) % 8 ≡ j % 8 = omega arith in rw (q, r) refl
+
+-- the byte of the eight bits from a place on
+pub byte_of-drop : (m : ℕ) (bits : List ℕ) → byte_of (drop m bits) ≡ get_or bits m 0 + 2 * get_or bits (m + 1) 0 + 4 * get_or bits (m + 2) 0 + 8 * get_or bits (m + 3) 0 + 16 * get_or bits (m + 4) 0 + 32 * get_or bits (m + 5) 0 + 64 * get_or bits (m + 6) 0 + 128 * get_or bits (m + 7) 0
+byte_of-drop m bits =
+    let first : get_or (drop m bits) 0 0 ≡ get_or bits m 0 = get_or-drop m bits 0 0 ∙ ap (λ (k : ℕ). get_or bits k 0) (add-zero m) in
+    omega (arith, first, get_or-drop m bits 1 0, get_or-drop m bits 2 0, get_or-drop m bits 3 0, get_or-drop m bits 4 0, get_or-drop m bits 5 0, get_or-drop m bits 6 0, get_or-drop m bits 7 0)
+  where
+    add-zero : (k : ℕ) → k + 0 ≡ k
+    add-zero k = omega arith
+
+-- ---- bytes of bits
+
+AreBits-drop : (n : ℕ) (bits : List ℕ) → AreBits bits → AreBits (drop n bits)
+AreBits-drop n bits two i = subst (λ (b : ℕ). b < 2) (sym (get_or-drop n bits i 0)) (two (n + i))
+
+pub length-bytes_of : (n : ℕ) (bits : List ℕ) → length (bytes_of n bits) ≡ n
+length-bytes_of zero bits = refl
+length-bytes_of (suc n) bits = ap suc (length-bytes_of n (drop 8 bits))
+
+-- byte k is made of the eight bits from 8 * k on
+pub get_or-bytes_of : (n k : ℕ) (bits : List ℕ) → k < n → get_or (bytes_of n bits) k 0 ≡ byte_of (drop (8 * k) bits)
+get_or-bytes_of zero k bits l = absurd (omega arith)
+get_or-bytes_of (suc n) zero bits l = refl
+get_or-bytes_of (suc n) (suc k) bits l =
+    let place : 8 + 8 * k ≡ 8 * suc k = omega arith in
+    get_or-bytes_of n k (drop 8 bits) (omega arith) ∙ ap byte_of (drop-drop (8 * k) 8 bits ∙ ap (λ (m : ℕ). drop m bits) place)
+
+-- one more byte, as at a step of a loop
+pub bytes_of-more : (n : ℕ) (bits : List ℕ) → bytes_of (n + 1) bits ≡ bytes_of n bits ++ byte_of (drop (8 * n) bits) ∷ []
+bytes_of-more zero bits = refl
+bytes_of-more (suc n) bits =
+    let next : suc n + 1 ≡ suc (n + 1) = omega arith in
+    let place : 8 + 8 * n ≡ 8 * suc n = omega arith in
+    ap (λ (m : ℕ). bytes_of m bits) next
+    ∙ (ap (λ (t : List ℕ). byte_of bits ∷ t) (bytes_of-more n (drop 8 bits))
+    ∙ ap (λ (t : List ℕ). byte_of bits ∷ bytes_of n (drop 8 bits) ++ byte_of t ∷ []) (drop-drop (8 * n) 8 bits ∙ ap (λ (m : ℕ). drop m bits) place))
+
+pub bit_of-bytes_of : (n : ℕ) (bits : List ℕ) → AreBits bits → length bits ≤ 8 * n → (j : ℕ) → bit_of (bytes_of n bits) j ≡ get_or bits j 0
+bit_of-bytes_of zero bits two l j = bit_at-zero (j % 8) ∙ sym (get_or_past bits j 0 (omega arith))
+bit_of-bytes_of (suc n) bits two l j =
+    ⊎_elim
+    (λ (m : j < 8). bit_of-first (byte_of bits) (bytes_of n (drop 8 bits)) j m ∙ bit_at-byte_of bits j two m)
+    (λ (m : 8 ≤ j). let e : j ≡ 8 + (j - 8) = omega arith in
+    let rest : bit_of (bytes_of n (drop 8 bits)) (j - 8) ≡ get_or bits j 0 =
+    bit_of-bytes_of n (drop 8 bits) (AreBits-drop 8 bits two) (omega (arith, length-drop 8 bits)) (j - 8)
+    ∙ (get_or-drop 8 bits (j - 8) 0 ∙ ap (λ (k : ℕ). get_or bits k 0) (sym e)) in
+    subst (λ (k : ℕ). bit_of (byte_of bits ∷ bytes_of n (drop 8 bits)) k ≡ get_or bits j 0) (sym e) (bit_of-rest (byte_of bits) (bytes_of n (drop 8 bits)) (j - 8) ∙ rest))
+    (cases_lt j 8)
+
+pub AreBytes-bytes_of : (n : ℕ) (bits : List ℕ) → AreBits bits → AreBytes (bytes_of n bits)
+AreBytes-bytes_of zero bits two i = omega arith
+AreBytes-bytes_of (suc n) bits two zero = byte_of-lt bits two
+AreBytes-bytes_of (suc n) bits two (suc i) = AreBytes-bytes_of n (drop 8 bits) (AreBits-drop 8 bits two) i
+
+-- lists of bytes with the same bits are the same
+pub same_from_bits_of : (a b : List ℕ) → length a ≡ length b → AreBytes a → AreBytes b → ((j : ℕ) → j < 8 * length a → bit_of a j ≡ bit_of b j) → a ≡ b
+same_from_bits_of a b l ha hb same =
+    ext_get_or 0 a b l (λ i m. same_from_bits_below 8 (get_or a i 0) (get_or b i 0) (ha i) (hb i)
+    (λ k n. let q : (i * 8 + k) / 8 ≡ i = omega arith in let r : (i * 8 + k) % 8 ≡ k = omega arith in
+    let e : bit_of a (i * 8 + k) ≡ bit_of b (i * 8 + k) = same (i * 8 + k) (omega arith) in
+    rw (q, r) at e))
+
+-- ---- packed bits
+
+pub length-packed : (bits : List ℕ) → length (packed bits) ≡ (length bits + 7) / 8
+unfolding packed
+length-packed bits = length-bytes_of ((length bits + 7) / 8) bits
+
+pub bit_of-packed : (bits : List ℕ) → AreBits bits → (j : ℕ) → bit_of (packed bits) j ≡ get_or bits j 0
+unfolding packed
+bit_of-packed bits two j = bit_of-bytes_of ((length bits + 7) / 8) bits two (omega arith) j
+
+pub AreBytes-packed : (bits : List ℕ) → AreBits bits → AreBytes (packed bits)
+unfolding packed
+AreBytes-packed bits two = AreBytes-bytes_of ((length bits + 7) / 8) bits two
+
+-- bits that fill whole bytes
+pub packed_whole : (n : ℕ) (bits : List ℕ) → length bits ≡ 8 * n → packed bits ≡ bytes_of n bits
+unfolding packed
+packed_whole n bits l = let e : (length bits + 7) / 8 ≡ n = omega arith in ap (λ (m : ℕ). bytes_of m bits) e
+
+-- ---- rows of columns
+
+-- bit j of each column
+abbrev pub bits_at : List (List ℕ) → ℕ → List ℕ
+bits_at columns j = map (λ column. bit_of column j) columns
+
+pub get_or-bits_at : (columns : List (List ℕ)) (j c : ℕ) → get_or (bits_at columns j) c 0 ≡ bit_of (get_or columns c []) j
+get_or-bits_at columns j c =
+    ⊎_elim
+    (λ (l : c < length columns). get_or-map (λ column. bit_of column j) columns c [] 0 l)
+    (λ (l : length columns ≤ c).
+    get_or_past (bits_at columns j) c 0 (omega (arith, length-map columns (λ column. bit_of column j)))
+    ∙ sym (ap (λ (column : List ℕ). bit_of column j) (get_or_past columns c [] l) ∙ bit_at-zero (j % 8)))
+    (cases_lt c (length columns))
+
+pub AreBits-bits_at : (columns : List (List ℕ)) (j : ℕ) → AreBits (bits_at columns j)
+AreBits-bits_at columns j c = subst (λ (b : ℕ). b < 2) (sym (get_or-bits_at columns j c)) (bit_at-lt (get_or (get_or columns c []) (j / 8) 0) (j % 8))
+
+-- bit c of row j is bit j of column c
+pub bit_of-row_of : (columns : List (List ℕ)) (j c : ℕ) → bit_of (row_of columns j) c ≡ bit_of (get_or columns c []) j
+unfolding row_of
+bit_of-row_of columns j c = bit_of-packed (bits_at columns j) (AreBits-bits_at columns j) c ∙ get_or-bits_at columns j c
+
+pub AreBytes-row_of : (columns : List (List ℕ)) (j : ℕ) → AreBytes (row_of columns j)
+unfolding row_of
+AreBytes-row_of columns j = AreBytes-packed (bits_at columns j) (AreBits-bits_at columns j)
+
+-- a row of columns that fill whole bytes
+pub row_of_whole : (n : ℕ) (columns : List (List ℕ)) (j : ℕ) → length columns ≡ 8 * n → row_of columns j ≡ bytes_of n (bits_at columns j)
+unfolding row_of
+row_of_whole n columns j l = packed_whole n (bits_at columns j) (length-map columns (λ column. bit_of column j) ∙ l)
+
+-- byte k of a row is made of the bits of eight columns
+pub get_or-row_of : (n : ℕ) (columns : List (List ℕ)) (j k : ℕ) → length columns ≡ 8 * n → k < n → get_or (row_of columns j) k 0 ≡ byte_of (drop (8 * k) (bits_at columns j))
+get_or-row_of n columns j k l within = ap (λ (bytes : List ℕ). get_or bytes k 0) (row_of_whole n columns j l) ∙ get_or-bytes_of n k (bits_at columns j) within
+
+pub length-row_of : (n : ℕ) (columns : List (List ℕ)) (j : ℕ) → length columns ≡ 8 * n → length (row_of columns j) ≡ n
+length-row_of n columns j l = ap length (row_of_whole n columns j l) ∙ length-bytes_of n (bits_at columns j)
+
+-- the word that has the bits of a row is the row
+pub row_of_from_bits : (n : ℕ) (columns : List (List ℕ)) (j : ℕ) (word : List ℕ) → length columns ≡ 8 * n → length word ≡ n → AreBytes word → ((c : ℕ) → c < length columns → bit_of word c ≡ bit_of (get_or columns c []) j) → word ≡ row_of columns j
+row_of_from_bits n columns j word lc lw bytes same =
+    same_from_bits_of word (row_of columns j) (lw ∙ sym (length-row_of n columns j lc)) bytes (AreBytes-row_of columns j)
+    (λ c l. same c (omega arith) ∙ sym (bit_of-row_of columns j c))

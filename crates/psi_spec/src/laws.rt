@@ -1,0 +1,14 @@
+//! Laws of the definitions. Each function does nothing: its contract is the law.
+
+ghost use Rattle.psi_spec.specs.Laws.{SetupsShowCommon, DealsShowCommon, StashShowsCommon};
+
+/// Each item that both ends have is shown, and each item that is shown shares its tag with the item that it names.
+pub fn shows_common()
+    ensures { SetupsShowCommon }
+{}
+
+/// The same for the two deals of any seed: at any placement of the receiver's items, and in the stash alone where it has a row for each of them.
+pub fn deals_show_common()
+    ensures placed { DealsShowCommon }
+    ensures stash { StashShowsCommon }
+{}
