@@ -160,3 +160,12 @@ pub row_of_from_bits : (n : ℕ) (columns : List (List ℕ)) (j : ℕ) (word : L
 row_of_from_bits n columns j word lc lw bytes same =
     same_from_bits_of word (row_of columns j) (lw ∙ sym (length-row_of n columns j lc)) bytes (AreBytes-row_of columns j)
     (λ c l. same c (omega arith) ∙ sym (bit_of-row_of columns j c))
+
+same_bits_at : {A : Type 0} (f g : A → List ℕ) (xs : List A) (j : ℕ) → ((x : A) → bit_of (f x) j ≡ bit_of (g x) j) → bits_at (map f xs) j ≡ bits_at (map g xs) j
+same_bits_at f g [] j same = refl
+same_bits_at f g (x ∷ xs) j same = let t = same x in let ts : bits_at (map f xs) j ≡ bits_at (map g xs) j = same_bits_at f g xs j same in cc
+
+-- columns that agree in row j
+pub row_of_agree : {A : Type 0} (f g : A → List ℕ) (xs : List A) (j : ℕ) → ((x : A) → bit_of (f x) j ≡ bit_of (g x) j) → row_of (map f xs) j ≡ row_of (map g xs) j
+unfolding row_of
+row_of_agree f g xs j same = ap packed (same_bits_at f g xs j same)
