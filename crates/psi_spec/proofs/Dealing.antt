@@ -1,16 +1,19 @@
 -- The sizes of dealt pairs, and the setup that they make.
-use Rattle.std.proofs.Common.{◌≡◌, ◌+◌, ◌*◌, ◌<◌, ◌≤◌, ℕ, suc, zero, All, List, [], ◌∷◌, length, map, take, drop, slice_get, Some, refl, sym, ap, ◌∙◌, subst, arith}
+use Rattle.std.proofs.Common.{◌≡◌, ◌+◌, ◌*◌, ◌<◌, ◌≤◌, ℕ, suc, zero, cond, All, List, [], ◌∷◌, ◌++◌, length, map, take, drop, nat_eq, get_or, slice_get, Some, refl, sym, ap, ◌∙◌, subst, arith}
 use Rattle.std.specs.List.{AllByRecursion}
-use Rattle.std.proofs.lemmas.List.{length-drop, length-map, length-take-le, drop-drop}
+use Rattle.std.proofs.lemmas.List.{length-drop, length-map, length-take-le, drop-drop, get_or-map}
+use Rattle.std.proofs.lemmas.Option.{get_or_from_slice_get}
 use Rattle.std.proofs.lemmas.List.Elements.{All-from_recursion}
 use Rattle.std.proofs.lemmas.Slice.Zip.{AllZip-long}
 use Rattle.psi_spec.specs.Limits.{bins_for, rows_for}
-use Rattle.psi_spec.specs.Columns.{column}
+use Rattle.psi_spec.specs.Bits.{bit_of}
+use Rattle.psi_spec.specs.Columns.{key_stream, column, row_of}
 use Rattle.psi_spec.specs.Deals.{SeedPair, ReceiverDeal, SenderDeal, seed_pairs, chosen_from, deal_bytes, dealt_receiver, dealt_sender, zero_columns, one_columns}
 use Rattle.psi_spec.specs.Placement.{Slot, MayHave, IsPlacementOf, candidates_of, stash_slots}
 use Rattle.psi_spec.specs.Meeting.{IsSetup, placed_of, setup_of}
 use Rattle.psi_spec.specs.Laws.{DealsShowCommon, StashShowsCommon}
-use Rattle.psi_spec.proofs.KeyStream.{length-key_stream}
+use Rattle.psi_spec.proofs.KeyStream.{length-key_stream, bit_of-column}
+use Rattle.psi_spec.proofs.Packing.{bit_of-row_of, row_of_agree}
 use Rattle.psi_spec.proofs.Meeting.{shows_common}
 use Rattle.psi_spec.proofs.Placing.{items_of-placed_of, slots_of-placed_of, stash_slots_placement}
 
@@ -43,6 +46,20 @@ slice_get-seed_pairs (suc n) bytes (suc c) l =
     let place : 64 + 64 * c ≡ 64 * suc c = omega arith in
     slice_get-seed_pairs n (drop 64 bytes) c (omega arith) ∙ ap Some (pair_from-drop bytes 64 (64 * c) ∙ ap (pair_from bytes) place)
 
+pub get_or-seed_pairs : (n : ℕ) (bytes : List ℕ) (c : ℕ) (d : SeedPair) → c < n → get_or (seed_pairs n bytes) c d ≡ pair_from bytes (64 * c)
+get_or-seed_pairs n bytes c d l = get_or_from_slice_get (seed_pairs n bytes) c (pair_from bytes (64 * c)) d (slice_get-seed_pairs n bytes c l)
+
+-- one more pair, as at a step of a loop
+pub seed_pairs-more : (n : ℕ) (bytes : List ℕ) → seed_pairs (n + 1) bytes ≡ seed_pairs n bytes ++ pair_from bytes (64 * n) ∷ []
+unfolding seed_pairs
+seed_pairs-more zero bytes = refl
+seed_pairs-more (suc n) bytes =
+    let count : suc n + 1 ≡ suc (n + 1) = omega arith in
+    let place : 64 + 64 * n ≡ 64 * suc n = omega arith in
+    ap (λ (k : ℕ). seed_pairs k bytes) count
+    ∙ (ap (λ (rest : List SeedPair). pair_from bytes 0 ∷ rest) (seed_pairs-more n (drop 64 bytes))
+    ∙ ap (λ (pair : SeedPair). pair_from bytes 0 ∷ seed_pairs n (drop 64 bytes) ++ pair ∷ []) (pair_from-drop bytes 64 (64 * n) ∙ ap (pair_from bytes) place))
+
 -- a pair of seeds of 32 bytes
 abbrev pub HasSeeds : SeedPair → Type 0
 HasSeeds pair = (length pair.zero ≡ 32) × (length pair.one ≡ 32)
@@ -59,6 +76,25 @@ seed_pairs_have_seeds n bytes l = All-from_recursion HasSeeds (seed_pairs n byte
 pub length-chosen_from : (choice : List ℕ) (c : ℕ) (pairs : List SeedPair) → length (chosen_from choice c pairs) ≡ length pairs
 length-chosen_from choice c [] = refl
 length-chosen_from choice c (pair ∷ pairs) = ap suc (length-chosen_from choice (c + 1) pairs)
+
+-- of a pair the seed that a bit chooses
+abbrev pub seed_at : List ℕ → ℕ → SeedPair → List ℕ
+seed_at choice c pair = cond (nat_eq (bit_of choice c) 0) pair.zero pair.one
+
+pub get_or-chosen_from : (choice : List ℕ) (c : ℕ) (pairs : List SeedPair) (i : ℕ) (seed : List ℕ) (pair : SeedPair) → i < length pairs → get_or (chosen_from choice c pairs) i seed ≡ seed_at choice (c + i) (get_or pairs i pair)
+get_or-chosen_from choice c [] i seed pair l = absurd (omega arith)
+get_or-chosen_from choice c (first ∷ pairs) zero seed pair l = let place : c ≡ c + 0 = omega arith in ap (λ (k : ℕ). seed_at choice k first) place
+get_or-chosen_from choice c (first ∷ pairs) (suc i) seed pair l =
+    let place : c + 1 + i ≡ c + suc i = omega arith in
+    get_or-chosen_from choice (c + 1) pairs i seed pair (omega arith) ∙ ap (λ (k : ℕ). seed_at choice k (get_or pairs i pair)) place
+
+-- one more chosen seed, as at a step of a loop
+pub chosen_from-push : (choice : List ℕ) (c : ℕ) (pairs : List SeedPair) (pair : SeedPair) → chosen_from choice c (pairs ++ pair ∷ []) ≡ chosen_from choice c pairs ++ seed_at choice (c + length pairs) pair ∷ []
+chosen_from-push choice c [] pair = let place : c ≡ c + 0 = omega arith in ap (λ (k : ℕ). seed_at choice k pair ∷ []) place
+chosen_from-push choice c (first ∷ pairs) pair =
+    let place : c + 1 + length pairs ≡ c + suc (length pairs) = omega arith in
+    ap (λ (rest : List (List ℕ)). seed_at choice c first ∷ rest) (chosen_from-push choice (c + 1) pairs pair)
+    ∙ ap (λ (k : ℕ). seed_at choice c first ∷ chosen_from choice (c + 1) pairs ++ seed_at choice k pair ∷ []) place
 
 -- ---- the dealt pair
 
@@ -100,6 +136,31 @@ dealt_sender_sizes seed session tag_length = record {
   count = length-chosen_from (take 64 (drop 32 (deal_bytes seed))) 0 (seed_pairs 512 (drop 96 (deal_bytes seed))) ∙ length-seed_pairs 512 (drop 96 (deal_bytes seed));
 }
 
+-- the two halves of a dealt pair hold the same name, session, key and tag length
+pub record AreAlike (receiver : ReceiverDeal) (sender : SenderDeal) : Type 0 where
+  pub id : receiver.id ≡ sender.id
+  pub session : receiver.session ≡ sender.session
+  pub key : receiver.key ≡ sender.key
+  pub tag_length : receiver.tag_length ≡ sender.tag_length
+
+pub dealt_alike : (seed : List ℕ) (session tag_length : ℕ) → AreAlike (dealt_receiver seed session tag_length) (dealt_sender seed session tag_length)
+unfolding dealt_receiver dealt_sender
+dealt_alike seed session tag_length = record { id = refl; session = refl; key = refl; tag_length = refl }
+
+-- and the session and the tag length are those that the dealer was given
+pub dealt_session : (seed : List ℕ) (session tag_length : ℕ) → (dealt_receiver seed session tag_length).session ≡ session
+unfolding dealt_receiver
+dealt_session seed session tag_length = refl
+
+pub dealt_tag_length : (seed : List ℕ) (session tag_length : ℕ) → (dealt_receiver seed session tag_length).tag_length ≡ tag_length
+unfolding dealt_receiver
+dealt_tag_length seed session tag_length = refl
+
+-- the sender has of each pair of the receiver the seed that the choice names
+pub dealt_chosen : (seed : List ℕ) (session tag_length : ℕ) → (dealt_sender seed session tag_length).chosen ≡ chosen_from (dealt_sender seed session tag_length).choice 0 (dealt_receiver seed session tag_length).seeds
+unfolding dealt_receiver dealt_sender
+dealt_chosen seed session tag_length = refl
+
 -- ---- columns of a deal
 
 pub length-zero_columns : (deal : ReceiverDeal) (rows : ℕ) → length (zero_columns deal rows) ≡ length deal.seeds
@@ -107,6 +168,32 @@ length-zero_columns deal rows = length-map deal.seeds (λ pair. column pair.zero
 
 pub length-one_columns : (deal : ReceiverDeal) (rows : ℕ) → length (one_columns deal rows) ≡ length deal.seeds
 length-one_columns deal rows = length-map deal.seeds (λ pair. column pair.one deal.session rows)
+
+pub get_or-zero_columns : (deal : ReceiverDeal) (rows c : ℕ) (pair : SeedPair) (d : List ℕ) → c < length deal.seeds → get_or (zero_columns deal rows) c d ≡ column (get_or deal.seeds c pair).zero deal.session rows
+get_or-zero_columns deal rows c pair d l = get_or-map (λ pair. column pair.zero deal.session rows) deal.seeds c pair d l
+
+pub get_or-one_columns : (deal : ReceiverDeal) (rows c : ℕ) (pair : SeedPair) (d : List ℕ) → c < length deal.seeds → get_or (one_columns deal rows) c d ≡ column (get_or deal.seeds c pair).one deal.session rows
+get_or-one_columns deal rows c pair d l = get_or-map (λ pair. column pair.one deal.session rows) deal.seeds c pair d l
+
+pub length-dealt_zero_columns : (seed : List ℕ) (session tag_length rows : ℕ) → length (zero_columns (dealt_receiver seed session tag_length) rows) ≡ 512
+length-dealt_zero_columns seed session tag_length rows = length-zero_columns (dealt_receiver seed session tag_length) rows ∙ (dealt_receiver_sizes seed session tag_length).count
+
+-- the first n bytes of the key stream of each zero seed
+abbrev pub zero_streams : ReceiverDeal → ℕ → List (List ℕ)
+zero_streams deal n = map (λ pair. key_stream pair.zero deal.session n) deal.seeds
+
+-- a row of the zero columns is the row of key streams that are long enough
+pub row_of-zero_columns : (deal : ReceiverDeal) (rows n j : ℕ) → j < rows → j < 8 * n → row_of (zero_columns deal rows) j ≡ row_of (zero_streams deal n) j
+row_of-zero_columns deal rows n j l within =
+    row_of_agree (λ (pair : SeedPair). column pair.zero deal.session rows) (λ (pair : SeedPair). key_stream pair.zero deal.session n) deal.seeds j
+    (λ pair. bit_of-column pair.zero deal.session rows n j l within)
+
+-- bit c of row j of the zero columns is bit j of the key stream of zero seed c
+pub bit_of-zero_row : (deal : ReceiverDeal) (rows n j c : ℕ) (pair : SeedPair) → c < length deal.seeds → j < rows → j < 8 * n → bit_of (row_of (zero_columns deal rows) j) c ≡ bit_of (key_stream (get_or deal.seeds c pair).zero deal.session n) j
+bit_of-zero_row deal rows n j c pair within l low =
+    bit_of-row_of (zero_columns deal rows) j c
+    ∙ (ap (λ (column : List ℕ). bit_of column j) (get_or-zero_columns deal rows c pair [] within)
+    ∙ bit_of-column (get_or deal.seeds c pair).zero deal.session rows n j l low)
 
 -- ---- the setup
 

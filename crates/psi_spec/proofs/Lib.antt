@@ -7,3 +7,5 @@ pub mod Placing
 pub mod Meeting
 pub mod KeyStream
 pub mod Dealing
+pub mod Comparing
+pub mod Printing

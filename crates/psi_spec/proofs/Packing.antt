@@ -1,8 +1,9 @@
 -- What the bits of packed bits are, and what a row of columns holds.
-use Rattle.std.proofs.Common.{◌≡◌, ◌+◌, ◌-◌, ◌*◌, ◌/◌, ◌%◌, ◌^◌, ◌<◌, ◌≤◌, ℕ, suc, zero, List, [], ◌∷◌, ◌++◌, length, map, drop, get_or, refl, sym, ap, ◌∙◌, subst, arith, ⊎_elim}
+use Rattle.std.proofs.Common.{◌≡◌, ◌+◌, ◌-◌, ◌*◌, ◌/◌, ◌%◌, ◌^◌, ◌<◌, ◌≤◌, ℕ, suc, zero, List, [], ◌∷◌, ◌++◌, length, map, take, drop, get_or, cond, true, false, ltb, bit_or, refl, sym, ap, ◌∙◌, subst, arith, ⊎_elim}
 use Rattle.std.specs.Int.{bit_at}
-use Rattle.std.proofs.lemmas.Bool.{cases_lt}
-use Rattle.std.proofs.lemmas.List.{get_or_past, get_or-drop, get_or-map, length-drop, length-map, ext_get_or, drop-drop}
+use Rattle.std.proofs.lemmas.Bool.{cases_lt, lt-ltb, le-ltb}
+use Rattle.std.proofs.lemmas.List.{get_or-take, length-take, take-map, drop-map, get_or_past, get_or-drop, get_or-map, length-drop, length-map, ext_get_or, drop-drop}
+use Rattle.std.proofs.lemmas.Nat.{or_comm, or_shifted, shl_whole}
 use Rattle.std.proofs.lemmas.Nat.Bits.{bit_at-lt, bit_at-zero, same_from_bits_below}
 use Rattle.psi_spec.specs.Bits.{bit_of, byte_of, bytes_of, packed}
 use Rattle.psi_spec.specs.Columns.{row_of}
@@ -44,6 +45,51 @@ byte_of-drop m bits =
   where
     add-zero : (k : ℕ) → k + 0 ≡ k
     add-zero k = omega arith
+
+-- the bits of the front of a list
+get_or-take_cond : (n k : ℕ) (bits : List ℕ) → get_or (take n bits) k 0 ≡ cond (ltb k n) (get_or bits k 0) 0
+get_or-take_cond n k bits =
+    ⊎_elim
+    (λ (l : k < n). let within : ltb k n ≡ true = lt-ltb k n l in rw within (get_or-take n bits k 0 l))
+    (λ (l : n ≤ k). let past : ltb k n ≡ false = le-ltb k n l in rw past (get_or_past (take n bits) k 0 (omega (arith, length-take n bits))))
+    (cases_lt k n)
+
+-- no bit after the eighth counts
+pub byte_of-take : (bits : List ℕ) → byte_of (take 8 bits) ≡ byte_of bits
+byte_of-take bits = omega (arith, get_or-take_cond 8 0 bits, get_or-take_cond 8 1 bits, get_or-take_cond 8 2 bits, get_or-take_cond 8 3 bits, get_or-take_cond 8 4 bits, get_or-take_cond 8 5 bits, get_or-take_cond 8 6 bits, get_or-take_cond 8 7 bits)
+
+-- one more bit, as at a step of a loop
+pub byte_of-take_more : (bits : List ℕ) (i : ℕ) → i < 8 → byte_of (take (i + 1) bits) ≡ byte_of (take i bits) + get_or bits i 0 * 2 ^ i
+byte_of-take_more bits zero l = omega (arith, get_or-take_cond 0 0 bits, get_or-take_cond 0 1 bits, get_or-take_cond 0 2 bits, get_or-take_cond 0 3 bits, get_or-take_cond 0 4 bits, get_or-take_cond 0 5 bits, get_or-take_cond 0 6 bits, get_or-take_cond 0 7 bits, get_or-take_cond 1 0 bits, get_or-take_cond 1 1 bits, get_or-take_cond 1 2 bits, get_or-take_cond 1 3 bits, get_or-take_cond 1 4 bits, get_or-take_cond 1 5 bits, get_or-take_cond 1 6 bits, get_or-take_cond 1 7 bits)
+byte_of-take_more bits (suc zero) l = omega (arith, get_or-take_cond 1 0 bits, get_or-take_cond 1 1 bits, get_or-take_cond 1 2 bits, get_or-take_cond 1 3 bits, get_or-take_cond 1 4 bits, get_or-take_cond 1 5 bits, get_or-take_cond 1 6 bits, get_or-take_cond 1 7 bits, get_or-take_cond 2 0 bits, get_or-take_cond 2 1 bits, get_or-take_cond 2 2 bits, get_or-take_cond 2 3 bits, get_or-take_cond 2 4 bits, get_or-take_cond 2 5 bits, get_or-take_cond 2 6 bits, get_or-take_cond 2 7 bits)
+byte_of-take_more bits (suc (suc zero)) l = omega (arith, get_or-take_cond 2 0 bits, get_or-take_cond 2 1 bits, get_or-take_cond 2 2 bits, get_or-take_cond 2 3 bits, get_or-take_cond 2 4 bits, get_or-take_cond 2 5 bits, get_or-take_cond 2 6 bits, get_or-take_cond 2 7 bits, get_or-take_cond 3 0 bits, get_or-take_cond 3 1 bits, get_or-take_cond 3 2 bits, get_or-take_cond 3 3 bits, get_or-take_cond 3 4 bits, get_or-take_cond 3 5 bits, get_or-take_cond 3 6 bits, get_or-take_cond 3 7 bits)
+byte_of-take_more bits (suc (suc (suc zero))) l = omega (arith, get_or-take_cond 3 0 bits, get_or-take_cond 3 1 bits, get_or-take_cond 3 2 bits, get_or-take_cond 3 3 bits, get_or-take_cond 3 4 bits, get_or-take_cond 3 5 bits, get_or-take_cond 3 6 bits, get_or-take_cond 3 7 bits, get_or-take_cond 4 0 bits, get_or-take_cond 4 1 bits, get_or-take_cond 4 2 bits, get_or-take_cond 4 3 bits, get_or-take_cond 4 4 bits, get_or-take_cond 4 5 bits, get_or-take_cond 4 6 bits, get_or-take_cond 4 7 bits)
+byte_of-take_more bits (suc (suc (suc (suc zero)))) l = omega (arith, get_or-take_cond 4 0 bits, get_or-take_cond 4 1 bits, get_or-take_cond 4 2 bits, get_or-take_cond 4 3 bits, get_or-take_cond 4 4 bits, get_or-take_cond 4 5 bits, get_or-take_cond 4 6 bits, get_or-take_cond 4 7 bits, get_or-take_cond 5 0 bits, get_or-take_cond 5 1 bits, get_or-take_cond 5 2 bits, get_or-take_cond 5 3 bits, get_or-take_cond 5 4 bits, get_or-take_cond 5 5 bits, get_or-take_cond 5 6 bits, get_or-take_cond 5 7 bits)
+byte_of-take_more bits (suc (suc (suc (suc (suc zero))))) l = omega (arith, get_or-take_cond 5 0 bits, get_or-take_cond 5 1 bits, get_or-take_cond 5 2 bits, get_or-take_cond 5 3 bits, get_or-take_cond 5 4 bits, get_or-take_cond 5 5 bits, get_or-take_cond 5 6 bits, get_or-take_cond 5 7 bits, get_or-take_cond 6 0 bits, get_or-take_cond 6 1 bits, get_or-take_cond 6 2 bits, get_or-take_cond 6 3 bits, get_or-take_cond 6 4 bits, get_or-take_cond 6 5 bits, get_or-take_cond 6 6 bits, get_or-take_cond 6 7 bits)
+byte_of-take_more bits (suc (suc (suc (suc (suc (suc zero)))))) l = omega (arith, get_or-take_cond 6 0 bits, get_or-take_cond 6 1 bits, get_or-take_cond 6 2 bits, get_or-take_cond 6 3 bits, get_or-take_cond 6 4 bits, get_or-take_cond 6 5 bits, get_or-take_cond 6 6 bits, get_or-take_cond 6 7 bits, get_or-take_cond 7 0 bits, get_or-take_cond 7 1 bits, get_or-take_cond 7 2 bits, get_or-take_cond 7 3 bits, get_or-take_cond 7 4 bits, get_or-take_cond 7 5 bits, get_or-take_cond 7 6 bits, get_or-take_cond 7 7 bits)
+byte_of-take_more bits (suc (suc (suc (suc (suc (suc (suc zero))))))) l = omega (arith, get_or-take_cond 7 0 bits, get_or-take_cond 7 1 bits, get_or-take_cond 7 2 bits, get_or-take_cond 7 3 bits, get_or-take_cond 7 4 bits, get_or-take_cond 7 5 bits, get_or-take_cond 7 6 bits, get_or-take_cond 7 7 bits, get_or-take_cond 8 0 bits, get_or-take_cond 8 1 bits, get_or-take_cond 8 2 bits, get_or-take_cond 8 3 bits, get_or-take_cond 8 4 bits, get_or-take_cond 8 5 bits, get_or-take_cond 8 6 bits, get_or-take_cond 8 7 bits)
+byte_of-take_more bits (suc (suc (suc (suc (suc (suc (suc (suc i)))))))) l = absurd (omega arith)
+
+byte_of-take_lt : (bits : List ℕ) (i : ℕ) → AreBits bits → i ≤ 8 → byte_of (take i bits) < 2 ^ i
+byte_of-take_lt bits zero two l = omega (arith, get_or-take_cond 0 0 bits, get_or-take_cond 0 1 bits, get_or-take_cond 0 2 bits, get_or-take_cond 0 3 bits, get_or-take_cond 0 4 bits, get_or-take_cond 0 5 bits, get_or-take_cond 0 6 bits, get_or-take_cond 0 7 bits, two 0, two 1, two 2, two 3, two 4, two 5, two 6, two 7)
+byte_of-take_lt bits (suc zero) two l = omega (arith, get_or-take_cond 1 0 bits, get_or-take_cond 1 1 bits, get_or-take_cond 1 2 bits, get_or-take_cond 1 3 bits, get_or-take_cond 1 4 bits, get_or-take_cond 1 5 bits, get_or-take_cond 1 6 bits, get_or-take_cond 1 7 bits, two 0, two 1, two 2, two 3, two 4, two 5, two 6, two 7)
+byte_of-take_lt bits (suc (suc zero)) two l = omega (arith, get_or-take_cond 2 0 bits, get_or-take_cond 2 1 bits, get_or-take_cond 2 2 bits, get_or-take_cond 2 3 bits, get_or-take_cond 2 4 bits, get_or-take_cond 2 5 bits, get_or-take_cond 2 6 bits, get_or-take_cond 2 7 bits, two 0, two 1, two 2, two 3, two 4, two 5, two 6, two 7)
+byte_of-take_lt bits (suc (suc (suc zero))) two l = omega (arith, get_or-take_cond 3 0 bits, get_or-take_cond 3 1 bits, get_or-take_cond 3 2 bits, get_or-take_cond 3 3 bits, get_or-take_cond 3 4 bits, get_or-take_cond 3 5 bits, get_or-take_cond 3 6 bits, get_or-take_cond 3 7 bits, two 0, two 1, two 2, two 3, two 4, two 5, two 6, two 7)
+byte_of-take_lt bits (suc (suc (suc (suc zero)))) two l = omega (arith, get_or-take_cond 4 0 bits, get_or-take_cond 4 1 bits, get_or-take_cond 4 2 bits, get_or-take_cond 4 3 bits, get_or-take_cond 4 4 bits, get_or-take_cond 4 5 bits, get_or-take_cond 4 6 bits, get_or-take_cond 4 7 bits, two 0, two 1, two 2, two 3, two 4, two 5, two 6, two 7)
+byte_of-take_lt bits (suc (suc (suc (suc (suc zero))))) two l = omega (arith, get_or-take_cond 5 0 bits, get_or-take_cond 5 1 bits, get_or-take_cond 5 2 bits, get_or-take_cond 5 3 bits, get_or-take_cond 5 4 bits, get_or-take_cond 5 5 bits, get_or-take_cond 5 6 bits, get_or-take_cond 5 7 bits, two 0, two 1, two 2, two 3, two 4, two 5, two 6, two 7)
+byte_of-take_lt bits (suc (suc (suc (suc (suc (suc zero)))))) two l = omega (arith, get_or-take_cond 6 0 bits, get_or-take_cond 6 1 bits, get_or-take_cond 6 2 bits, get_or-take_cond 6 3 bits, get_or-take_cond 6 4 bits, get_or-take_cond 6 5 bits, get_or-take_cond 6 6 bits, get_or-take_cond 6 7 bits, two 0, two 1, two 2, two 3, two 4, two 5, two 6, two 7)
+byte_of-take_lt bits (suc (suc (suc (suc (suc (suc (suc zero))))))) two l = omega (arith, get_or-take_cond 7 0 bits, get_or-take_cond 7 1 bits, get_or-take_cond 7 2 bits, get_or-take_cond 7 3 bits, get_or-take_cond 7 4 bits, get_or-take_cond 7 5 bits, get_or-take_cond 7 6 bits, get_or-take_cond 7 7 bits, two 0, two 1, two 2, two 3, two 4, two 5, two 6, two 7)
+byte_of-take_lt bits (suc (suc (suc (suc (suc (suc (suc (suc zero)))))))) two l = omega (arith, get_or-take_cond 8 0 bits, get_or-take_cond 8 1 bits, get_or-take_cond 8 2 bits, get_or-take_cond 8 3 bits, get_or-take_cond 8 4 bits, get_or-take_cond 8 5 bits, get_or-take_cond 8 6 bits, get_or-take_cond 8 7 bits, two 0, two 1, two 2, two 3, two 4, two 5, two 6, two 7)
+byte_of-take_lt bits (suc (suc (suc (suc (suc (suc (suc (suc (suc i))))))))) two l = absurd (omega arith)
+
+-- the same step, as a byte takes a bit by `|=` and `<<`
+pub byte_of-take_or : (bits : List ℕ) (i : ℕ) → AreBits bits → i < 8 → bit_or (byte_of (take i bits)) (get_or bits i 0 * 2 ^ i % 2 ^ 8) ≡ byte_of (take (i + 1) bits)
+byte_of-take_or bits i two l =
+    let b : ℕ = get_or bits i 0 in
+    let before : ℕ = byte_of (take i bits) in
+    let whole : b * 2 ^ i % 2 ^ 8 ≡ b * 2 ^ i = shl_whole b 1 i 8 (two i) (omega arith) in
+    let joined : bit_or (b * 2 ^ i) before ≡ b * 2 ^ i + before = or_shifted b i before (byte_of-take_lt bits i two (omega arith)) in
+    ap (bit_or before) whole ∙ (or_comm before (b * 2 ^ i) ∙ (joined ∙ omega (arith, byte_of-take_more bits i l)))
 
 -- ---- bytes of bits
 
@@ -152,6 +198,12 @@ row_of_whole n columns j l = packed_whole n (bits_at columns j) (length-map colu
 pub get_or-row_of : (n : ℕ) (columns : List (List ℕ)) (j k : ℕ) → length columns ≡ 8 * n → k < n → get_or (row_of columns j) k 0 ≡ byte_of (drop (8 * k) (bits_at columns j))
 get_or-row_of n columns j k l within = ap (λ (bytes : List ℕ). get_or bytes k 0) (row_of_whole n columns j l) ∙ get_or-bytes_of n k (bits_at columns j) within
 
+-- the same of the eight columns as a list of their own
+pub get_or-row_of_chunk : (n : ℕ) (columns : List (List ℕ)) (j k : ℕ) → length columns ≡ 8 * n → k < n → get_or (row_of columns j) k 0 ≡ byte_of (bits_at (take 8 (drop (8 * k) columns)) j)
+get_or-row_of_chunk n columns j k l within =
+    get_or-row_of n columns j k l within
+    ∙ sym (ap byte_of (sym (take-map (λ column. bit_of column j) 8 (drop (8 * k) columns)) ∙ ap (take 8) (sym (drop-map (λ column. bit_of column j) (8 * k) columns))) ∙ byte_of-take (drop (8 * k) (bits_at columns j)))
+
 pub length-row_of : (n : ℕ) (columns : List (List ℕ)) (j : ℕ) → length columns ≡ 8 * n → length (row_of columns j) ≡ n
 length-row_of n columns j l = ap length (row_of_whole n columns j l) ∙ length-bytes_of n (bits_at columns j)
 
@@ -160,3 +212,18 @@ pub row_of_from_bits : (n : ℕ) (columns : List (List ℕ)) (j : ℕ) (word : L
 row_of_from_bits n columns j word lc lw bytes same =
     same_from_bits_of word (row_of columns j) (lw ∙ sym (length-row_of n columns j lc)) bytes (AreBytes-row_of columns j)
     (λ c l. same c (omega arith) ∙ sym (bit_of-row_of columns j c))
+
+-- the word that has the bytes of a row is the row
+pub row_of_from_bytes : (n : ℕ) (columns : List (List ℕ)) (j : ℕ) (word : List ℕ) → length columns ≡ 8 * n → length word ≡ n → ((k : ℕ) → k < n → get_or word k 0 ≡ byte_of (bits_at (take 8 (drop (8 * k) columns)) j)) → word ≡ row_of columns j
+row_of_from_bytes n columns j word lc lw same =
+    ext_get_or 0 word (row_of columns j) (lw ∙ sym (length-row_of n columns j lc))
+    (λ k l. same k (omega arith) ∙ sym (get_or-row_of_chunk n columns j k lc (omega arith)))
+
+same_bits_at : {A : Type 0} (f g : A → List ℕ) (xs : List A) (j : ℕ) → ((x : A) → bit_of (f x) j ≡ bit_of (g x) j) → bits_at (map f xs) j ≡ bits_at (map g xs) j
+same_bits_at f g [] j same = refl
+same_bits_at f g (x ∷ xs) j same = let t = same x in let ts : bits_at (map f xs) j ≡ bits_at (map g xs) j = same_bits_at f g xs j same in cc
+
+-- columns that agree in row j
+pub row_of_agree : {A : Type 0} (f g : A → List ℕ) (xs : List A) (j : ℕ) → ((x : A) → bit_of (f x) j ≡ bit_of (g x) j) → row_of (map f xs) j ≡ row_of (map g xs) j
+unfolding row_of
+row_of_agree f g xs j same = ap packed (same_bits_at f g xs j same)

@@ -1,12 +1,16 @@
 -- Items in their slots: the word of each item's row, and the placement of items in the stash.
-use Rattle.std.proofs.Common.{◌≡◌, ◌≢◌, ◌+◌, ◌-◌, ◌<◌, ◌≤◌, inl, inr, ℕ, suc, zero, Bool, true, false, cond, List, [], ◌∷◌, ◌++◌, length, map, take, get_or, Contains, Some, nat_eq, slice_get, refl, sym, ap, ◌∙◌, subst, arith, eq-eqb}
+use Rattle.std.proofs.Common.{◌≡◌, ◌≢◌, ◌+◌, ◌-◌, ◌*◌, ◌<◌, ◌≤◌, inl, inr, ℕ, suc, zero, Bool, true, false, cond, List, [], ◌∷◌, ◌++◌, length, map, take, drop, codes, All, get_or, Contains, Some, nat_eq, slice_get, refl, sym, ap, ◌∙◌, subst, arith, eq-eqb}
 use Rattle.std.specs.List.{AllZip, AllByRecursion, IsDistinct}
 use Rattle.std.proofs.lemmas.Bool.{ne_eqb, eqb-true, false≢true}
-use Rattle.std.proofs.lemmas.List.Elements.{Contains-get_or}
+use Rattle.std.proofs.lemmas.List.Elements.{All-from_recursion, Contains-get_or}
+use Rattle.std.proofs.lemmas.Nat.{mod_below}
+use Rattle.std.proofs.lemmas.Option.{slice_get_within}
+use Rattle.std.specs.Int.{w64, from_be_bytes}
+use Rattle.sha2.specs.Sha256.{sha256}
 use Rattle.std.proofs.lemmas.Map.Keys.{IsDistinct-head, IsDistinct-tail}
 use Rattle.psi_spec.specs.Bits.{zero_word}
 use Rattle.psi_spec.specs.Formulas.{bin, code, item_digest}
-use Rattle.psi_spec.specs.Placement.{Slot, MayHave, IsPlacement, candidates_of, stash_slots}
+use Rattle.psi_spec.specs.Placement.{Slot, MayHave, IsPlacement, IsPlacementOf, candidates_of, stash_slots}
 use Rattle.psi_spec.specs.Meeting.{Placed, placed_of, row_word}
 use Rattle.psi_spec.proofs.Lists.{Contains-here, Contains-later}
 use Rattle.psi_spec.proofs.Sizes.{length-zero_word, length-code}
@@ -119,6 +123,26 @@ pub may_have_of_placed : (stash : ℕ) (key : List ℕ) (bins : ℕ) (placed : L
 may_have_of_placed stash key bins [] p each (k, l, e) = absurd (omega arith)
 may_have_of_placed stash key bins (q ∷ placed) p each (zero, l, e) = subst (λ (z : Placed). MayHave stash bins (candidates_of key bins z.item) z.slot) e each.0
 may_have_of_placed stash key bins (q ∷ placed) p each (suc k, l, e) = may_have_of_placed stash key bins placed p each.1 (k, omega arith, e)
+
+pub bin-lt : (key : List ℕ) (bins index : ℕ) (digest : List ℕ) → 0 < bins → bin key bins index digest < bins
+unfolding bin
+bin-lt key bins index digest l = mod_below (from_be_bytes w64 (take 8 (drop (8 * (index - 1)) (sha256 (codes "psi-bins" ++ key ++ digest))))) bins l
+
+-- the row and the index of a slot that an item may have are within bounds
+pub slot_within : (stash : ℕ) (key : List ℕ) (bins : ℕ) (item : List ℕ) (slot : Slot) → 0 < bins → MayHave stash bins (candidates_of key bins item) slot → (slot.row < bins + stash) × (slot.index ≤ 3)
+slot_within stash key bins item slot l (inl h) = (h.2, omega arith)
+slot_within stash key bins item slot l (inr h) =
+    let own : bin key bins slot.index (item_digest item) ≡ slot.row = bin_of_slot stash key bins item slot (inr h) h.0 in
+    (omega (arith, bin-lt key bins slot.index (item_digest item) l), omega (arith, slice_get_within (candidates_of key bins item) (slot.index - 1) slot.row h.1))
+
+each_within : (stash : ℕ) (key : List ℕ) (bins : ℕ) (items : List (List ℕ)) (slots : List Slot) → 0 < bins → AllZip (MayHave stash bins) (map (candidates_of key bins) items) slots → AllByRecursion (λ slot. (slot.row < bins + stash) × (slot.index ≤ 3)) slots
+each_within stash key bins [] [] l each = tt
+each_within stash key bins [] (slot ∷ slots) l each = absurd each
+each_within stash key bins (x ∷ items) [] l each = absurd each
+each_within stash key bins (x ∷ items) (slot ∷ slots) l each = (slot_within stash key bins x slot l each.0, each_within stash key bins items slots l each.1)
+
+pub placement_within : (stash : ℕ) (key : List ℕ) (bins : ℕ) (items : List (List ℕ)) (slots : List Slot) → 0 < bins → IsPlacementOf stash key bins items slots → All (λ slot. (slot.row < bins + stash) × (slot.index ≤ 3)) slots
+placement_within stash key bins items slots l placement = All-from_recursion (λ slot. (slot.row < bins + stash) × (slot.index ≤ 3)) slots (each_within stash key bins items slots l placement.each)
 
 -- ---- the stash
 
