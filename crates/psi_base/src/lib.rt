@@ -13,3 +13,6 @@ pub use limits::{FILE_LIMIT, LIMIT_ITEMS, LINE_LIMIT, STASH, bins, rows};
 pub use memory::MemWorld;
 pub use words::Words;
 pub use world::{World, print_all};
+
+#[cfg(test)]
+mod tests;

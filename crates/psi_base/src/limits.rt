@@ -1,6 +1,6 @@
 // The limits of a run, and the size of the receiver's table.
 ghost use Rattle.std.specs.Prelude.{◌≡◌, ◌≤◌};
-ghost use Rattle.psi_spec.specs.Limits.{limit_items, stash_rows, bins_for, rows_for};
+ghost use Rattle.psi_spec.specs.Limits.{stash_rows, bins_for, rows_for};
 
 /// The most items in a file.
 pub const LIMIT_ITEMS: u32 = 65_536;
@@ -16,7 +16,7 @@ pub const STASH: u32 = 4;
 
 /// How many bins the table for `n` items has.
 pub fn bins(n: u32) -> u32
-    requires { n ≤ limit_items }
+    requires { n ≤ LIMIT_ITEMS }
     ensures { result ≡ bins_for n }
 {
     n + n / 5 + 1
@@ -24,7 +24,7 @@ pub fn bins(n: u32) -> u32
 
 /// How many rows the table for `n` items has: the bins, and the rows of the stash.
 pub fn rows(n: u32) -> u32
-    requires { n ≤ limit_items }
+    requires { n ≤ LIMIT_ITEMS }
     ensures { result ≡ rows_for stash_rows n }
 {
     bins(n) + STASH

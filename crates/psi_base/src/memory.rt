@@ -1,7 +1,7 @@
 // A world in memory, whose listed calls fail.
 ghost use Rattle.std.specs.Prelude.{◌≡◌, ◌<◌, length, OnErr, OnOk, option_map};
 ghost use Rattle.psi_base.specs.Outside.{Outside, Rose, with_file, Reads, Prints, items_of};
-ghost use Rattle.psi_base.specs.Memory.{calls_of, memory_of, outside_of, no_calls, empty_memory, listed_too, failure_listed, counted, raised, ReadsMemory, PrintsMemory};
+ghost use Rattle.psi_base.specs.Memory.{calls_of, memory_of, outside_of, no_calls, empty_memory, with_listed, with_call, with_fault, next_listed, memory_with_file, memory_with_failure, ReadsMemory, PrintsMemory};
 
 use crate::{Fault, FaultKind, NoMemory, ReadFault, World};
 use std::alloc::Global;
@@ -28,7 +28,7 @@ impl Schedule {
 
     // Lists that the nth call fails.
     fn list(&mut self, nth: u64) -> Result<(), NoMemory>
-        ensures listed { OnOk result (calls_of self.new ≡ listed_too (calls_of self.old) nth) }
+        ensures listed { OnOk result (calls_of self.new ≡ with_listed (calls_of self.old) nth) }
         ensures refused { OnErr result (calls_of self.new ≡ calls_of self.old) }
     {
         self.listed.insert(nth)?;
@@ -37,8 +37,8 @@ impl Schedule {
 
     // Counts a call, and answers whether it is listed to fail.
     fn next_fails(&mut self) -> bool
-        ensures answer { let old = calls_of self.old in result ≡ old.listed old.made }
-        ensures left { calls_of self.new ≡ counted (calls_of self.old) }
+        ensures answer { result ≡ next_listed (calls_of self.old) }
+        ensures left { calls_of self.new ≡ with_call (calls_of self.old) }
     {
         let call = self.made;
         self.made = call.saturating_add(1);
@@ -47,7 +47,7 @@ impl Schedule {
 
     // Counts a fault.
     fn raise(&mut self)
-        ensures left { calls_of self.new ≡ raised (calls_of self.old) }
+        ensures left { calls_of self.new ≡ with_fault (calls_of self.old) }
         ensures rose { Rose (calls_of self.old).faults (calls_of self.new).faults }
     {
         self.faults = self.faults.saturating_add(1);
@@ -83,7 +83,7 @@ impl MemWorld {
     /// Puts a file of this name in place of the one that was there, if any. Where memory is wanting,
     /// nothing is changed.
     pub fn put_file(&mut self, name: &str, bytes: &[u8]) -> Result<(), NoMemory>
-        ensures put { let old = memory_of self.old in OnOk result (memory_of self.new ≡ record old { files = with_file old.files name.now bytes.now }) }
+        ensures put { OnOk result (memory_of self.new ≡ memory_with_file (memory_of self.old) name.now bytes.now) }
         ensures refused { OnErr result (memory_of self.new ≡ memory_of self.old) }
     {
         let content = bytes.to_vec(self.alloc)?;
@@ -94,7 +94,7 @@ impl MemWorld {
     /// Lists that the nth call of this kind fails, counted from 0 from the making of this world. Where
     /// memory is wanting, nothing is changed.
     pub fn fail(&mut self, kind: FaultKind, nth: u64) -> Result<(), NoMemory>
-        ensures listed { OnOk result (memory_of self.new ≡ failure_listed (memory_of self.old) kind nth) }
+        ensures listed { OnOk result (memory_of self.new ≡ memory_with_failure (memory_of self.old) kind nth) }
         ensures refused { OnErr result (memory_of self.new ≡ memory_of self.old) }
     {
         match kind {
@@ -107,10 +107,7 @@ impl MemWorld {
     pub fn file(&self, name: &str) -> Option<&[u8]>
         ensures { option_map (λ bytes. bytes.now) result ≡ (memory_of self.now).files name.now }
     {
-        match self.files.get(name) {
-            Some(bytes) => Some(bytes.as_slice()),
-            None => None,
-        }
+        self.files.get(name).map(|bytes| bytes.as_slice())
     }
 
     /// All the bytes that were printed.
@@ -127,7 +124,8 @@ impl World for MemWorld {
     /// As `World` says. A call fails where it is listed or the file is missing, and `taken` is one more
     /// than `max`.
     fn read_file(&mut self, alloc: Global, name: &str, max: u32) -> Result<Vec<u8>, ReadFault>
-        ensures reads { Reads (outside_of (memory_of self.old)) name.now max (items_of result) (outside_of (memory_of self.new)) }
+        ensures reads { let old = memory_of self.old in
+            Reads (outside_of old) name.now max (items_of result) (outside_of (memory_of self.new)) }
         ensures exact { ReadsMemory (memory_of self.old) name.now max (items_of result) (memory_of self.new) }
     {
         if self.file_calls.next_fails() {
@@ -143,16 +141,14 @@ impl World for MemWorld {
                 taken: u64::from(max) + 1,
             });
         }
-        match bytes.as_slice().to_vec(alloc) {
-            Ok(copy) => Ok(copy),
-            Err(_) => Err(ReadFault::NoMemory),
-        }
+        bytes.to_vec(alloc).map_err(|_| ReadFault::NoMemory)
     }
 
     /// As `World` says. A call fails where it is listed, and else prints all the bytes, if memory lasts.
     fn print(&mut self, bytes: &[u8]) -> Result<usize, Fault>
         requires { 0 < length bytes.now }
-        ensures prints { Prints (outside_of (memory_of self.old)) bytes.now result (outside_of (memory_of self.new)) }
+        ensures prints { let old = memory_of self.old in
+            Prints (outside_of old) bytes.now result (outside_of (memory_of self.new)) }
         ensures exact { PrintsMemory (memory_of self.old) bytes.now result (memory_of self.new) }
     {
         if self.print_calls.next_fails() {

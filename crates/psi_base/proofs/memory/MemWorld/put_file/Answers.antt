@@ -3,7 +3,7 @@ use Rattle.std.specs.Option.{option_map}
 use Rattle.std.specs.BTreeMap.{get_by_text}
 use Rattle.std.proofs.lemmas.Map.Text.{btree_map_updates_text}
 use Rattle.psi_base.specs.Outside.{Files, with_file}
-use Rattle.psi_base.specs.Memory.{memory_of, Memory}
+use Rattle.psi_base.specs.Memory.{memory_of}
 use Rattle.psi_base.proofs.memory.MemWorld.put_file.Goals as goal
 
 -- the items of a vector that was chosen by a test
