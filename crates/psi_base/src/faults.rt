@@ -1,5 +1,7 @@
 // Why a call was refused.
 ghost use Rattle.std.specs.Prelude.{◌≡◌};
+ghost use Rattle.psi_base.specs.declared.faults.Fault.TheVariants as fault;
+ghost use Rattle.psi_base.specs.declared.faults.ReadFault.TheVariants as read;
 
 use std::alloc::{AllocError, AllocFailed};
 
@@ -53,5 +55,21 @@ impl<T: Drop> From<AllocFailed<T>> for NoMemory {
 
     fn from(_: AllocFailed<T>) -> NoMemory {
         NoMemory
+    }
+}
+
+impl From<Failed> for Fault {
+    ghost from_gives = { λ _ e. e ≡ fault.Failed };
+
+    fn from(_: Failed) -> Fault {
+        Fault::Failed
+    }
+}
+
+impl From<Failed> for ReadFault {
+    ghost from_gives = { λ _ e. e ≡ read.Failed };
+
+    fn from(_: Failed) -> ReadFault {
+        ReadFault::Failed
     }
 }

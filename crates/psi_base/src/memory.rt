@@ -1,9 +1,9 @@
 // A world in memory, whose listed calls fail.
-ghost use Rattle.std.specs.Prelude.{◌≡◌, ◌<◌, length, OnErr, OnOk, option_map};
+ghost use Rattle.std.specs.Prelude.{◌≡◌, ◌<◌, is_err, length, OnErr, OnOk, option_map};
 ghost use Rattle.psi_base.specs.Outside.{Outside, Rose, with_file, Reads, Prints, items_of};
 ghost use Rattle.psi_base.specs.Memory.{calls_of, memory_of, outside_of, no_calls, empty_memory, with_listed, with_call, with_fault, next_listed, memory_with_file, memory_with_failure, ReadsMemory, PrintsMemory};
 
-use crate::{Fault, FaultKind, NoMemory, ReadFault, World};
+use crate::{Failed, Fault, FaultKind, NoMemory, ReadFault, World};
 use std::alloc::Global;
 use std::collections::{BTreeMap, BTreeSet};
 
@@ -35,22 +35,29 @@ impl Schedule {
         Ok(())
     }
 
-    // Counts a call, and answers whether it is listed to fail.
-    fn next_fails(&mut self) -> bool
-        ensures answer { result ≡ next_listed (calls_of self.old) }
-        ensures left { calls_of self.new ≡ with_call (calls_of self.old) }
+    // Counts a call, which fails where it is listed.
+    fn begin(&mut self) -> Result<(), Failed>
+        ensures answer { is_err result ≡ next_listed (calls_of self.old) }
+        ensures made { OnOk result (calls_of self.new ≡ with_call (calls_of self.old)) }
+        ensures failed { OnErr result (calls_of self.new ≡ with_fault (with_call (calls_of self.old))) }
+        ensures rose { OnErr result (Rose (calls_of self.old).faults (calls_of self.new).faults) }
     {
         let call = self.made;
         self.made = call.saturating_add(1);
-        self.listed.contains(&call)
+        if self.listed.contains(&call) {
+            Err(self.raise())
+        } else {
+            Ok(())
+        }
     }
 
     // Counts a fault.
-    fn raise(&mut self)
+    fn raise(&mut self) -> Failed
         ensures left { calls_of self.new ≡ with_fault (calls_of self.old) }
         ensures rose { Rose (calls_of self.old).faults (calls_of self.new).faults }
     {
         self.faults = self.faults.saturating_add(1);
+        Failed
     }
 }
 
@@ -83,7 +90,8 @@ impl MemWorld {
     /// Puts a file of this name in place of the one that was there, if any. Where memory is wanting,
     /// nothing is changed.
     pub fn put_file(&mut self, name: &str, bytes: &[u8]) -> Result<(), NoMemory>
-        ensures put { OnOk result (memory_of self.new ≡ memory_with_file (memory_of self.old) name.now bytes.now) }
+        ensures put { let old = memory_of self.old in
+            OnOk result (memory_of self.new ≡ memory_with_file old name.now bytes.now) }
         ensures refused { OnErr result (memory_of self.new ≡ memory_of self.old) }
     {
         let content = bytes.to_vec(self.alloc)?;
@@ -94,7 +102,8 @@ impl MemWorld {
     /// Lists that the nth call of this kind fails, counted from 0 from the making of this world. Where
     /// memory is wanting, nothing is changed.
     pub fn fail(&mut self, kind: FaultKind, nth: u64) -> Result<(), NoMemory>
-        ensures listed { OnOk result (memory_of self.new ≡ memory_with_failure (memory_of self.old) kind nth) }
+        ensures listed { let old = memory_of self.old in
+            OnOk result (memory_of self.new ≡ memory_with_failure old kind nth) }
         ensures refused { OnErr result (memory_of self.new ≡ memory_of self.old) }
     {
         match kind {
@@ -126,15 +135,12 @@ impl World for MemWorld {
     fn read_file(&mut self, alloc: Global, name: &str, max: u32) -> Result<Vec<u8>, ReadFault>
         ensures reads { let old = memory_of self.old in
             Reads (outside_of old) name.now max (items_of result) (outside_of (memory_of self.new)) }
-        ensures exact { ReadsMemory (memory_of self.old) name.now max (items_of result) (memory_of self.new) }
+        ensures exact { let old = memory_of self.old in
+            ReadsMemory old name.now max (items_of result) (memory_of self.new) }
     {
-        if self.file_calls.next_fails() {
-            self.file_calls.raise();
-            return Err(ReadFault::Failed);
-        }
+        self.file_calls.begin()?;
         let Some(bytes) = self.files.get(name) else {
-            self.file_calls.raise();
-            return Err(ReadFault::Failed);
+            return Err(self.file_calls.raise().into());
         };
         if bytes.len() as u64 > u64::from(max) {
             return Err(ReadFault::TooLong {
@@ -151,10 +157,7 @@ impl World for MemWorld {
             Prints (outside_of old) bytes.now result (outside_of (memory_of self.new)) }
         ensures exact { PrintsMemory (memory_of self.old) bytes.now result (memory_of self.new) }
     {
-        if self.print_calls.next_fails() {
-            self.print_calls.raise();
-            return Err(Fault::Failed);
-        }
+        self.print_calls.begin()?;
         match self.printed.extend_from_slice(bytes) {
             Ok(()) => Ok(bytes.len()),
             Err(_) => {

@@ -4,9 +4,16 @@ use std::test::Fail;
 
 #[test]
 fn sizes_of_tables(rt: HostRuntime) {
-    for (items, want) in [(0, 1), (4, 5), (5, 7), (100, 121), (65_536, 78_644)] {
-        assert_eq!(rt; bins(items), want, "bins for {items}");
-        assert_eq!(rt; rows(items), want + 4, "rows for {items}");
+    for (items, bin_count, row_count) in [
+        (0, 1, 5),
+        (1, 2, 6),
+        (3, 4, 8),
+        (10, 13, 17),
+        (1_000, 1_201, 1_205),
+        (65_536, 78_644, 78_648),
+    ] {
+        assert_eq!(rt; bins(items), bin_count, "bins for {items}");
+        assert_eq!(rt; rows(items), row_count, "rows for {items}");
     }
 }
 
