@@ -1,2 +1,4 @@
 //! The definitions that every other crate's contracts speak of.
 #![tactic(auto)]
+
+pub mod plain;
