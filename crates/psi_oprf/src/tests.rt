@@ -47,7 +47,7 @@ fn tags_are_as_computed_elsewhere(rt: HostRuntime) {
 }
 
 #[test]
-fn a_choice_of_nothing_leaves_the_word(rt: HostRuntime) {
+fn what_choice_and_code_share_is_flipped(rt: HostRuntime) {
     let zero = Word512::zero();
     let code = code(&KEY, 0, &DIGEST);
     assert_eq!(rt; peer_tag(&KEY, 16, 5, &zero, &zero, &code), TAG);
