@@ -1,0 +1,81 @@
+//! Codes of item digests, and tags of words.
+ghost use Rattle.std.specs.Prelude.{◌≡◌, ◌≤◌, length};
+ghost use Rattle.psi_spec.specs.Bits.{xor, both};
+ghost use Rattle.psi_spec.specs.Formulas.{code as code_of, code_half, tag, wide_tag};
+
+use crate::words::Word512;
+use sha2::{Digest, Sha256};
+
+/// A tag of 1 to 16 bytes, with zeros behind them.
+pub type Tag = [u8; 16];
+
+// One of the two halves, 0 or 1, of a code.
+fn half_code(key: &[u8; 16], index: u8, half: u8, digest: &[u8; 32]) -> [u8; 32]
+    ensures { result ≡ code_half key.now index half digest.now }
+{
+    let mut hasher = Sha256::new();
+    hasher.update("psi-code");
+    hasher.update(key);
+    hasher.update([index, half]);
+    hasher.update(digest);
+    hasher.finalize()
+}
+
+/// The code, under a key of 16 bytes, of an item with this digest at an index: 1 to 3 for the bin
+/// of that number, and 0 for the stash.
+#[tactic(auto, unfolding(psi_spec::specs::Formulas::code))]
+pub fn code(key: &[u8; 16], index: u8, digest: &[u8; 32]) -> Word512
+    requires { index ≤ 3 }
+    ensures { result ≡ code_of key.now index digest.now }
+{
+    let mut bytes = [0; 64];
+    let (low, high) = bytes.split_at_mut(32);
+    low.copy_from_slice(&half_code(key, index, 0, digest));
+    high.copy_from_slice(&half_code(key, index, 1, digest));
+    Word512::from_bytes(&bytes)
+}
+
+/// Fills `out`, of 1 to 16 bytes, with the tag of that many bytes of a word at a row.
+#[tactic(auto, unfolding(psi_spec::specs::Formulas::tag))]
+pub fn tag_into(key: &[u8; 16], row: u32, word: &Word512, out: &mut [u8])
+    requires least { 1 ≤ length out.old }
+    requires most { length out.old ≤ 16 }
+    ensures { out.new ≡ tag key.now (length out.old) row word.now }
+{
+    let mut hasher = Sha256::new();
+    hasher.update("psi-tags");
+    hasher.update(key);
+    hasher.update(row.to_be_bytes());
+    hasher.update(word.to_bytes());
+    let hash = hasher.finalize();
+    out.copy_from_slice(&hash[..out.len()]);
+}
+
+/// The tag, of `width` bytes from 1 to 16, of the receiver's own word `t` at a row.
+#[tactic(auto, unfolding(psi_spec::specs::Formulas::wide_tag))]
+pub fn own_tag(key: &[u8; 16], width: u8, row: u32, t: &Word512) -> Tag
+    requires least { 1 ≤ width }
+    requires most { width ≤ 16 }
+    ensures { result ≡ wide_tag key.now width row t.now }
+{
+    let mut tag = [0; 16];
+    tag_into(key, row, t, &mut tag[..usize::from(width)]);
+    tag
+}
+
+/// The tag, of `width` bytes from 1 to 16, of the word that a code makes of the sender's word `q`
+/// at a row: `q` with the bits flipped that both the choice word and the code have.
+pub fn peer_tag(
+    key: &[u8; 16],
+    width: u8,
+    row: u32,
+    q: &Word512,
+    choice: &Word512,
+    code: &Word512,
+) -> Tag
+    requires least { 1 ≤ width }
+    requires most { width ≤ 16 }
+    ensures { result ≡ wide_tag key.now width row (xor q.now (both choice.now code.now)) }
+{
+    own_tag(key, width, row, &q.xor(&choice.and(code)))
+}

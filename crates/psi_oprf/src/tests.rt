@@ -1,0 +1,65 @@
+//! Values that were computed by other programs.
+use crate::{Word512, code, own_tag, peer_tag, tag_into};
+
+// The key of a deal, and the digest of an item.
+const KEY: [u8; 16] = [
+    0xbd, 0xd2, 0x19, 0xb8, 0xa0, 0x8d, 0xed, 0x1a, 0xa8, 0x36, 0xef, 0xcc, 0x8b, 0x77, 0x0d, 0xc7,
+];
+
+const DIGEST: [u8; 32] = [
+    0xaf, 0xd4, 0x61, 0x30, 0x66, 0x93, 0x1f, 0x73, 0xc7, 0xce, 0x45, 0x3d, 0x0d, 0xde, 0x71, 0x88,
+    0x5c, 0xcb, 0x7b, 0x72, 0x9d, 0xb6, 0xa5, 0xca, 0xdd, 0x13, 0x44, 0x2a, 0x2d, 0xb0, 0xdc, 0x9f,
+];
+
+// The tag of row 5 and the zero word.
+const TAG: [u8; 16] = [
+    0x38, 0x9f, 0x74, 0x64, 0x09, 0x95, 0xc5, 0xb1, 0xf6, 0xba, 0x0d, 0x27, 0xca, 0xc8, 0xf2, 0xc5,
+];
+
+#[test]
+fn codes_begin_as_computed_elsewhere(rt: HostRuntime) {
+    let first = code(&KEY, 0, &DIGEST).to_bytes();
+    assert_eq!(rt;
+        &first[..8],
+        [0x8f, 0x07, 0x12, 0x52, 0xd1, 0x3d, 0x36, 0x35].as_slice()
+    );
+    assert_eq!(rt;
+        &first[32..40],
+        [0x45, 0xde, 0x14, 0x91, 0x6e, 0xc7, 0x61, 0x1d].as_slice()
+    );
+    let second = code(&KEY, 1, &DIGEST).to_bytes();
+    assert_eq!(rt;
+        &second[..8],
+        [0x04, 0x21, 0xe0, 0xb7, 0xe5, 0x23, 0x58, 0xc7].as_slice()
+    );
+}
+
+#[test]
+fn tags_are_as_computed_elsewhere(rt: HostRuntime) {
+    let zero = Word512::zero();
+    assert_eq!(rt; own_tag(&KEY, 16, 5, &zero), TAG);
+    let mut narrow = [0; 16];
+    narrow[..3].copy_from_slice(&TAG[..3]);
+    assert_eq!(rt; own_tag(&KEY, 3, 5, &zero), narrow);
+    let mut out = [0; 3];
+    tag_into(&KEY, 5, &zero, &mut out);
+    assert_eq!(rt; &out[..], &TAG[..3]);
+}
+
+#[test]
+fn what_choice_and_code_share_is_flipped(rt: HostRuntime) {
+    let zero = Word512::zero();
+    let code = code(&KEY, 0, &DIGEST);
+    assert_eq!(rt; peer_tag(&KEY, 16, 5, &zero, &zero, &code), TAG);
+    assert_eq!(rt; peer_tag(&KEY, 16, 5, &code, &code, &code), TAG);
+}
+
+#[test]
+fn one_bit_stands_alone(rt: HostRuntime) {
+    let mut bytes = [0; 64];
+    bytes[37] = 0x20;
+    let word = Word512::from_bytes(&bytes);
+    for c in 0..512 {
+        assert_eq!(rt; word.bit(c), c == 301, "at bit {c}");
+    }
+}
