@@ -16,6 +16,7 @@ struct Schedule {
 }
 
 impl Schedule {
+    // No call is listed, and none was made.
     fn new(alloc: Global) -> Schedule
         ensures { calls_of result ≡ no_calls }
     {
@@ -130,8 +131,8 @@ impl MemWorld {
 impl World for MemWorld {
     ghost outside = { λ world. outside_of (memory_of world) };
 
-    /// As `World` says. A call fails where it is listed or the file is missing, and `taken` is one more
-    /// than `max`.
+    /// As `World` says. It fails just where this call is listed or the file is missing, and `taken` is
+    /// one more than `max`.
     fn read_file(&mut self, alloc: Global, name: &str, max: u32) -> Result<Vec<u8>, ReadFault>
         ensures reads { let old = memory_of self.old in
             Reads (outside_of old) name.now max (items_of result) (outside_of (memory_of self.new)) }
@@ -150,7 +151,8 @@ impl World for MemWorld {
         bytes.to_vec(alloc).map_err(|_| ReadFault::NoMemory)
     }
 
-    /// As `World` says. A call fails where it is listed, and else prints all the bytes, if memory lasts.
+    /// As `World` says. It fails just where this call is listed, and else prints all the bytes, where
+    /// memory lasts.
     fn print(&mut self, bytes: &[u8]) -> Result<usize, Fault>
         requires { 0 < length bytes.now }
         ensures prints { let old = memory_of self.old in

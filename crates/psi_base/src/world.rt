@@ -13,20 +13,23 @@ pub trait World {
     /// The whole content of the file of this name, which has at most `max` bytes.
     ///
     /// `Failed` comes only where the count of file faults rose, as for a missing file, and `TooLong`
-    /// only where more than `max` bytes of the file were taken.
+    /// only where more than `max` bytes of the file were taken. `NoMemory` comes where memory for the
+    /// content is wanting, and is not counted. A refused read changes nothing else.
     fn read_file(&mut self, alloc: Global, name: &str, max: u32) -> Result<Vec<u8>, ReadFault>
         ensures { Reads (outside self.old) name.now max (items_of result) (outside self.new) };
 
-    /// Prints the first bytes, at least one, and answers how many they were.
+    /// Prints a front of the bytes, at least one of them, and answers how many bytes that were.
     ///
     /// `Failed` comes only where the count of print faults rose, and `NoMemory` only where the count of
-    /// refusals rose; then nothing was printed.
+    /// refusals rose. A refused print prints nothing.
     fn print(&mut self, bytes: &[u8]) -> Result<usize, Fault>
         requires { 0 < length bytes.now }
         ensures { Prints (outside self.old) bytes.now result (outside self.new) };
 }
 
-/// Prints all the bytes. Where a print is refused, the bytes before it stay printed.
+/// Prints all the bytes, by as many prints as that takes.
+///
+/// Where a print is refused, its refusal is answered, and the bytes before it stay printed.
 pub fn print_all<W: World>(world: &mut W, bytes: &[u8]) -> Result<(), Fault>
     ensures { PrintsAll (W.outside world.old) bytes.now result (W.outside world.new) }
 {
