@@ -1,0 +1,11 @@
+//! The items of a file: its lines in their normal form, each once, in the order of their first occurrence.
+#![tactic(auto)]
+
+mod errors;
+mod hashing;
+mod items;
+mod lines;
+
+pub use errors::BadItems;
+pub use hashing::digest;
+pub use items::Items;

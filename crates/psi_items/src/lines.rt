@@ -1,0 +1,36 @@
+// A line of a file, and the item that it gives.
+ghost use Rattle.std.specs.Prelude.{◌≡◌, length, map, find};
+ghost use Rattle.std.specs.Char.{to_ascii_lowercase};
+ghost use Rattle.std.specs.Str.Lines.{strip_carriage_return};
+ghost use Rattle.psi_spec.specs.Items as spec;
+
+/// The line without the one carriage return at its end, if it has one.
+pub(crate) fn without_carriage_return(line: &[u8]) -> &[u8]
+    ensures { result.now ≡ strip_carriage_return line.now }
+{
+    match line {
+        [text @ .., b'\r'] => text,
+        _ => line,
+    }
+}
+
+/// Whether no line may hold the byte.
+fn is_control(byte: u8) -> bool
+    ensures { result ≡ spec.is_control byte }
+{
+    (byte < b' ' && byte != b'\t') || byte == 0x7f
+}
+
+/// The first byte that no line may hold.
+pub(crate) fn control_byte(line: &[u8]) -> Option<u8>
+    ensures { result ≡ find spec.is_control line.now }
+{
+    line.iter().copied().find(|byte| is_control(*byte))
+}
+
+/// Whether the byte is a space or a tab.
+fn is_blank(byte: u8) -> bool
+    ensures { result ≡ spec.is_blank byte }
+{
+    byte == b' ' || byte == b'\t'
+}
