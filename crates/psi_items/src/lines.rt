@@ -1,6 +1,6 @@
 // A line of a file, and the item that it gives.
-ghost use Rattle.std.specs.Prelude.{◌≡◌, length, map, find};
-ghost use Rattle.std.specs.Char.{to_ascii_lowercase};
+ghost use Rattle.std.specs.Prelude.{◌≡◌, ◌-◌, length, take, drop, find};
+ghost use Rattle.std.specs.List.{prefix_len, suffix_len};
 ghost use Rattle.std.specs.Str.Lines.{strip_carriage_return};
 ghost use Rattle.psi_spec.specs.Items as spec;
 
@@ -33,4 +33,27 @@ fn is_blank(byte: u8) -> bool
     ensures { result ≡ spec.is_blank byte }
 {
     byte == b' ' || byte == b'\t'
+}
+
+/// The line without the blanks at its start.
+fn without_leading_blanks(line: &[u8]) -> &[u8]
+    ensures { result.now ≡ drop (prefix_len spec.is_blank line.now) line.now }
+{
+    let blanks = line.iter().take_while(|byte| is_blank(**byte)).count();
+    &line[blanks..]
+}
+
+/// The line without the blanks at its end.
+fn without_trailing_blanks(line: &[u8]) -> &[u8]
+    ensures { result.now ≡ take (length line.now - suffix_len spec.is_blank line.now) line.now }
+{
+    let blanks = line.iter().rev().take_while(|byte| is_blank(**byte)).count();
+    &line[..line.len() - blanks]
+}
+
+/// The line without the blanks at its start and at its end.
+pub(crate) fn trimmed(line: &[u8]) -> &[u8]
+    ensures { result.now ≡ spec.trimmed line.now }
+{
+    without_trailing_blanks(without_leading_blanks(line))
 }
