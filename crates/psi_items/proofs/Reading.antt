@@ -33,12 +33,12 @@ items_of_lines-push lines line =
 -- the fault of a line with a control byte
 pub fault_of-byte : (items : List (List ℕ)) (line : List ℕ) (found : ℕ) → Some found ≡ find is_control (strip_carriage_return line) → fault_of items line ≡ Some (holds_byte found)
 unfolding fault_of
-fault_of-byte items line found first = ap (option_map_or (λ byte. Some (holds_byte byte)) (fault_of_item items (normal line))) (sym first)
+fault_of-byte items line found first = ap (λ byte. option_map_or (λ b. Some (holds_byte b)) byte (fault_of_item items (normal line))) (sym first)
 
 -- the fault of a line without one
 pub fault_of-clean : (items : List (List ℕ)) (line : List ℕ) → None ≡ find is_control (strip_carriage_return line) → fault_of items line ≡ fault_of_item items (normal line)
 unfolding fault_of
-fault_of-clean items line none = ap (option_map_or (λ byte. Some (holds_byte byte)) (fault_of_item items (normal line))) (sym none)
+fault_of-clean items line none = ap (λ byte. option_map_or (λ b. Some (holds_byte b)) byte (fault_of_item items (normal line))) (sym none)
 
 -- the normal form of a line by its text
 pub normal-text : (line text : List ℕ) → text ≡ trimmed (strip_carriage_return line) → normal line ≡ map to_ascii_lowercase text
@@ -60,6 +60,11 @@ adds-nothing items line clean empty = (
     fault_by : List (List ℕ) → List ℕ → ℕ → Option LineFault
     fault_by before item n =
         cond (nat_lt line_limit n) (Some (is_long n)) (cond (not (nat_eq n 0) && (not (list_any (bytes_eq item) before) && nat_eq (length before) limit_items)) (Some is_too_many) None)
+
+-- an empty line gives nothing
+pub adds-nothing-nil : (items : List (List ℕ)) → (fault_of items [] ≡ None) × (items ≡ with_line items [])
+unfolding normal
+adds-nothing-nil items = adds-nothing items [] refl refl
 
 -- a line whose normal form is long
 pub fault_of-long : (items : List (List ℕ)) (line : List ℕ) → None ≡ find is_control (strip_carriage_return line) → line_limit < length (normal line) → fault_of items line ≡ Some (is_long (length (normal line)))
@@ -87,35 +92,40 @@ pub HasRead-begun : (bytes : List ℕ) → HasRead bytes 0 []
 unfolding items_of_lines first_bad
 HasRead-begun bytes = record { items = refl; rest = refl }
 
+-- the line stands after n lines of the file
+pub record IsLine (bytes : List ℕ) (n : ℕ) (line : List ℕ) : Type 0 where
+  pub within : n < length (lines_of bytes)
+  pub here : line ≡ get_or (lines_of bytes) n line
+
 -- what is left begins with the next line
-rest_at : (bytes : List ℕ) (n : ℕ) (line : List ℕ) → n < length (lines_of bytes) → line ≡ get_or (lines_of bytes) n line → drop n (lines_of bytes) ≡ line ∷ drop (n + 1) (lines_of bytes)
-rest_at bytes n line within here = drop_more (lines_of bytes) n line within ∙ ap (λ l. l ∷ drop (n + 1) (lines_of bytes)) (sym here)
+rest_at : (bytes : List ℕ) (n : ℕ) (line : List ℕ) → IsLine bytes n line → drop n (lines_of bytes) ≡ line ∷ drop (n + 1) (lines_of bytes)
+rest_at bytes n line next = drop_more (lines_of bytes) n line next.within ∙ ap (λ l. l ∷ drop (n + 1) (lines_of bytes)) (sym next.here)
 
 -- the lines so far and the next one
-lines_more : (bytes : List ℕ) (n : ℕ) (line : List ℕ) → n < length (lines_of bytes) → line ≡ get_or (lines_of bytes) n line → take (n + 1) (lines_of bytes) ≡ take n (lines_of bytes) ++ line ∷ []
-lines_more bytes n line within here = take_more (lines_of bytes) n line within ∙ ap (λ l. take n (lines_of bytes) ++ l ∷ []) (sym here)
+lines_more : (bytes : List ℕ) (n : ℕ) (line : List ℕ) → IsLine bytes n line → take (n + 1) (lines_of bytes) ≡ take n (lines_of bytes) ++ line ∷ []
+lines_more bytes n line next = take_more (lines_of bytes) n line next.within ∙ ap (λ l. take n (lines_of bytes) ++ l ∷ []) (sym next.here)
 
 -- the bad line of number n, or what comes later
 abbrev bad_or : ℕ → Option LineFault → Option BadLine → Option BadLine
 bad_or n fault later = option_map_or (λ found. Some (record { line = n; fault = found })) fault later
 
 -- the first bad line is the next, or comes later
-first_bad_at : (bytes : List ℕ) (n : ℕ) (items : List (List ℕ)) (line : List ℕ) → n < length (lines_of bytes) → line ≡ get_or (lines_of bytes) n line → HasRead bytes n items
+first_bad_at : (bytes : List ℕ) (n : ℕ) (items : List (List ℕ)) (line : List ℕ) → IsLine bytes n line → HasRead bytes n items
     → first_bad bytes ≡ bad_or (n + 1) (fault_of items line) (first_bad_after (take (n + 1) (lines_of bytes)) (drop (n + 1) (lines_of bytes)))
-first_bad_at bytes n items line within here read =
+first_bad_at bytes n items line next read =
     let before : List (List ℕ) = take n (lines_of bytes) in
-    let count : length before ≡ n = length-take-le n (lines_of bytes) (omega arith) in
+    let count : length before ≡ n = length-take-le n (lines_of bytes) (omega (arith, next.within)) in
     let more : List (List ℕ) → Option BadLine = λ so_far. first_bad_after so_far (drop (n + 1) (lines_of bytes)) in
-    read.rest ∙ ap (first_bad_after before) (rest_at bytes n line within here)
+    read.rest ∙ ap (first_bad_after before) (rest_at bytes n line next)
     ∙ ap (λ k. bad_or (k + 1) (fault_of (items_of_lines before) line) (more (before ++ line ∷ []))) count
-    ∙ ap₂ (λ (have so_far : List (List ℕ)). bad_or (n + 1) (fault_of have line) (more so_far)) (sym read.items) (sym (lines_more bytes n line within here))
+    ∙ ap₂ (λ (have so_far : List (List ℕ)). bad_or (n + 1) (fault_of have line) (more so_far)) (sym read.items) (sym (lines_more bytes n line next))
 
 -- after one more line, which has no fault
-pub HasRead-more : (bytes : List ℕ) (n : ℕ) (items : List (List ℕ)) (line : List ℕ) (new : List (List ℕ)) → n < length (lines_of bytes) → line ≡ get_or (lines_of bytes) n line → HasRead bytes n items
+pub HasRead-more : (bytes : List ℕ) (n : ℕ) (items : List (List ℕ)) (line : List ℕ) (new : List (List ℕ)) → IsLine bytes n line → HasRead bytes n items
     → (fault_of items line ≡ None) × (new ≡ with_line items line) → HasRead bytes (n + 1) new
-HasRead-more bytes n items line new within here read added = record {
-    items = added.1 ∙ ap (λ have. with_line have line) read.items ∙ sym (items_of_lines-push (take n (lines_of bytes)) line) ∙ ap items_of_lines (sym (lines_more bytes n line within here));
-    rest = first_bad_at bytes n items line within here read ∙ ap (λ fault. bad_or (n + 1) fault (first_bad_after (take (n + 1) (lines_of bytes)) (drop (n + 1) (lines_of bytes)))) added.0
+HasRead-more bytes n items line new next read added = record {
+    items = added.1 ∙ ap (λ have. with_line have line) read.items ∙ sym (items_of_lines-push (take n (lines_of bytes)) line) ∙ ap items_of_lines (sym (lines_more bytes n line next));
+    rest = first_bad_at bytes n items line next read ∙ ap (λ fault. bad_or (n + 1) fault (first_bad_after (take (n + 1) (lines_of bytes)) (drop (n + 1) (lines_of bytes)))) added.0
   }
 
 -- after the last line
@@ -133,12 +143,12 @@ refused n None later bad e = absurd (cc)
 refused n (Some fault) later bad e = e
 
 -- at a line that has a fault
-pub HasRead-bad : (bytes : List ℕ) (n : ℕ) (items : List (List ℕ)) (line : List ℕ) (new : List (List ℕ)) (bad : BadItems) → n < length (lines_of bytes) → line ≡ get_or (lines_of bytes) n line → HasRead bytes n items
+pub HasRead-bad : (bytes : List ℕ) (n : ℕ) (items : List (List ℕ)) (line : List ℕ) (new : List (List ℕ)) (bad : BadItems) → IsLine bytes n line → HasRead bytes n items
     → AddsLine items (n + 1) line (Err bad) new → ReadsItems bytes (Err bad)
-HasRead-bad bytes n items line new bad within here read added = answer bad added
+HasRead-bad bytes n items line new bad next read added = answer bad added
   where
     first : (e : BadItems) → option_map (refusal_of (n + 1)) (fault_of items line) ≡ Some e → option_map bad_items_of (first_bad bytes) ≡ Some e
-    first e same = ap (option_map bad_items_of) (first_bad_at bytes n items line within here read) ∙ refused (n + 1) (fault_of items line) _ e same
+    first e same = ap (option_map bad_items_of) (first_bad_at bytes n items line next read) ∙ refused (n + 1) (fault_of items line) _ e same
     answer : (e : BadItems) → AddsLine items (n + 1) line (Err e) new → ReadsItems bytes (Err e)
     answer NoMemory h = tt
     answer (Byte at found) h = first (Byte at found) h

@@ -72,6 +72,10 @@ impl Items {
         ensures added { AddsLine self.old number line.now result self.new }
         ensures err { OnErr result (self.new ≡ self.old) }
     {
+        // Done first, since a file may have tens of millions of empty lines.
+        if line.is_empty() {
+            return Ok(());
+        }
         let line = without_carriage_return(line);
         if let Some(found) = control_byte(line) {
             return Err(BadItems::Byte {
