@@ -40,10 +40,10 @@ AreItems-nil = record { few = omega arith; distinct = tt; each = All-nil IsItem 
 -- one item more
 pub AreItems-push : (items : List (List ℕ)) (item : List ℕ) → AreItems items → IsItem item → list_any (bytes_eq item) items ≡ false → (length items ≡ limit_items → ⊥) → AreItems (items ++ item ∷ [])
 AreItems-push items item held fine absent room = record {
-    few = let n : length (items ++ item ∷ []) ≡ length items + 1 = length_push items item in let few = held.few in omega arith;
-    distinct = IsDistinct-push nat_list_eq_equiv items item held.distinct absent;
-    each = All-push IsItem items item held.each fine
-  }
+  few = let n : length (items ++ item ∷ []) ≡ length items + 1 = length_push items item in let few = held.few in omega arith;
+  distinct = IsDistinct-push nat_list_eq_equiv items item held.distinct absent;
+  each = All-push IsItem items item held.each fine;
+}
 
 -- the item at a place of the keys
 pub IsItem-at : (keys : List (Vec ℕ Global)) (i : ℕ) (v : Vec ℕ Global) → AreItems (items_in keys) → Some v ≡ slice_get keys i → IsItem v.items
@@ -51,15 +51,15 @@ IsItem-at keys i v held at =
     let within : i < length keys = slice_get_within keys i v (sym at) in
     let within_items : i < length (items_in keys) = rw length-map within in
     let here : get_or (items_in keys) i v.items ≡ v.items =
-        get_or-map (λ (w : Vec ℕ Global). w.items) keys i v v.items within ∙ ap (λ (w : Vec ℕ Global). w.items) (get_or_from_slice_get keys i v v (sym at)) in
+    get_or-map (λ (w : Vec ℕ Global). w.items) keys i v v.items within ∙ ap (λ (w : Vec ℕ Global). w.items) (get_or_from_slice_get keys i v v (sym at)) in
     subst IsItem here (All-get_or IsItem (items_in keys) i v.items within_items held.each)
 
 -- the test of the items tells whether one is among them
 pub Contains-from_test : (items : List (List ℕ)) (item : List ℕ) (found : Bool) → found ≡ list_any (bytes_eq item) items → (found ≡ true) ↔ Contains items item
 Contains-from_test items item found test = (
-    λ yes. Contains-from_any (λ x y. (bytes_eq-Decides x y).0) item items (sym test ∙ yes),
-    λ there. test ∙ list_any-from_Contains nat_list_eq_equiv item items there,
-  )
+  λ yes. Contains-from_any (λ x y. (bytes_eq-Decides x y).0) item items (sym test ∙ yes),
+  λ there. test ∙ list_any-from_Contains nat_list_eq_equiv item items there,
+)
 
 -- a test of the items by a test of the keys
 pub list_any-keys : (keys : List (Vec ℕ Global)) (items : List (List ℕ)) (item : List ℕ) → items_in keys ≡ items → list_any (λ (v : Vec ℕ Global). bytes_eq item v.items) keys ≡ list_any (bytes_eq item) items
@@ -81,17 +81,17 @@ fault_of_item-fine items item fine =
 pub added-repeat : (items : List (List ℕ)) (item : List ℕ) → IsItem item → list_any (bytes_eq item) items ≡ true
     → (fault_of_item items item ≡ None) × (items ≡ with_item items item)
 added-repeat items item fine there = (
-    fault_of_item-fine items item fine ∙ ap (λ (b : Bool). cond (not b && nat_eq (length items) limit_items) (Some is_too_many) None) there,
-    sym (ap (λ (b : Bool). cond b items (items ++ item ∷ [])) there),
-  )
+  fault_of_item-fine items item fine ∙ ap (λ (b : Bool). cond (not b && nat_eq (length items) limit_items) (Some is_too_many) None) there,
+  sym (ap (λ (b : Bool). cond b items (items ++ item ∷ [])) there),
+)
 
 -- adding an item that is not there, where there is room for it
 pub added-new : (items : List (List ℕ)) (item : List ℕ) → IsItem item → list_any (bytes_eq item) items ≡ false → (length items ≡ limit_items → ⊥)
     → (fault_of_item items item ≡ None) × (items ++ item ∷ [] ≡ with_item items item)
 added-new items item fine absent room = (
-    fault_of_item-fine items item fine ∙ ap₂ (λ (among full : Bool). cond (not among && full) (Some is_too_many) None) absent (ne_eqb (length items) limit_items room),
-    sym (ap (λ (b : Bool). cond b items (items ++ item ∷ [])) absent),
-  )
+  fault_of_item-fine items item fine ∙ ap₂ (λ (among full : Bool). cond (not among && full) (Some is_too_many) None) absent (ne_eqb (length items) limit_items room),
+  sym (ap (λ (b : Bool). cond b items (items ++ item ∷ [])) absent),
+)
 
 -- adding an item that is not there, where there is none
 pub refused-full : (items : List (List ℕ)) (item : List ℕ) → IsItem item → list_any (bytes_eq item) items ≡ false → length items ≡ limit_items
@@ -105,7 +105,7 @@ pub items_in-inserted : (keys : List (Vec ℕ Global)) (v : Vec ℕ Global) (ite
 items_in-inserted keys v item same absent =
     let bytes : Vec ℕ Global → List ℕ = λ w. w.items in
     let new : list_any (λ (w : Vec ℕ Global). bytes_eq v.items w.items) keys ≡ false =
-        list_any-map bytes (bytes_eq v.items) keys ∙ ap (λ x. list_any (bytes_eq x) (items_in keys)) same ∙ absent in
+    list_any-map bytes (bytes_eq v.items) keys ∙ ap (λ x. list_any (bytes_eq x) (items_in keys)) same ∙ absent in
     ap (λ (b : Bool). items_in (cond b keys (keys ++ v ∷ []))) new ∙ map-append bytes keys (v ∷ []) ∙ ap (λ x. items_in keys ++ x ∷ []) same
 
 -- as many items as keys

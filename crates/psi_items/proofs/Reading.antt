@@ -53,9 +53,9 @@ length-normal line text same = ap length (normal-text line text same) ∙ length
 pub adds-nothing : (items : List (List ℕ)) (line : List ℕ) → None ≡ find is_control (strip_carriage_return line) → length (normal line) ≡ 0
     → (fault_of items line ≡ None) × (items ≡ with_line items line)
 adds-nothing items line clean empty = (
-    fault_of-clean items line clean ∙ ap (λ n. fault_by items (normal line) n) empty,
-    sym (ap (λ (b : Bool). cond b items (with_item items (normal line))) (eq-eqb (length (normal line)) 0 empty)),
-  )
+  fault_of-clean items line clean ∙ ap (λ n. fault_by items (normal line) n) empty,
+  sym (ap (λ (b : Bool). cond b items (with_item items (normal line))) (eq-eqb (length (normal line)) 0 empty)),
+)
   where
     fault_by : List (List ℕ) → List ℕ → ℕ → Option LineFault
     fault_by before item n =
@@ -74,9 +74,9 @@ fault_of-long items line clean long = fault_of-clean items line clean ∙ cond-t
 pub AddsLine-item : (old : List (List ℕ)) (n : ℕ) (line : List ℕ) (result : Result (Unit {0}) BadItems) (new : List (List ℕ)) → None ≡ find is_control (strip_carriage_return line) → 0 < length (normal line)
     → AddsItem old n (normal line) result new → AddsLine old n line result new
 AddsLine-item old n line (Ok done) new clean some added = (
-    fault_of-clean old line clean ∙ added.0,
-    added.1 ∙ sym (ap (λ (b : Bool). cond b old (with_item old (normal line))) (ne_eqb (length (normal line)) 0 (λ none. absurd (omega (arith, some, none))))),
-  )
+  fault_of-clean old line clean ∙ added.0,
+  added.1 ∙ sym (ap (λ (b : Bool). cond b old (with_item old (normal line))) (ne_eqb (length (normal line)) 0 (λ none. absurd (omega (arith, some, none))))),
+)
 AddsLine-item old n line (Err NoMemory) new clean some added = tt
 AddsLine-item old n line (Err (Byte at found)) new clean some added = ap (option_map (refusal_of n)) (fault_of-clean old line clean) ∙ added
 AddsLine-item old n line (Err (Long at count)) new clean some added = ap (option_map (refusal_of n)) (fault_of-clean old line clean) ∙ added
@@ -124,9 +124,9 @@ first_bad_at bytes n items line next read =
 pub HasRead-more : (bytes : List ℕ) (n : ℕ) (items : List (List ℕ)) (line : List ℕ) (new : List (List ℕ)) → IsLine bytes n line → HasRead bytes n items
     → (fault_of items line ≡ None) × (new ≡ with_line items line) → HasRead bytes (n + 1) new
 HasRead-more bytes n items line new next read added = record {
-    items = added.1 ∙ ap (λ have. with_line have line) read.items ∙ sym (items_of_lines-push (take n (lines_of bytes)) line) ∙ ap items_of_lines (sym (lines_more bytes n line next));
-    rest = first_bad_at bytes n items line next read ∙ ap (λ fault. bad_or (n + 1) fault (first_bad_after (take (n + 1) (lines_of bytes)) (drop (n + 1) (lines_of bytes)))) added.0
-  }
+  items = added.1 ∙ ap (λ have. with_line have line) read.items ∙ sym (items_of_lines-push (take n (lines_of bytes)) line) ∙ ap items_of_lines (sym (lines_more bytes n line next));
+  rest = first_bad_at bytes n items line next read ∙ ap (λ fault. bad_or (n + 1) fault (first_bad_after (take (n + 1) (lines_of bytes)) (drop (n + 1) (lines_of bytes)))) added.0;
+}
 
 -- after the last line
 pub HasRead-done : (bytes : List ℕ) (n : ℕ) (items : List (List ℕ)) → n ≡ length (lines_of bytes) → HasRead bytes n items → ReadsItems bytes (Ok items)
@@ -149,6 +149,7 @@ HasRead-bad bytes n items line new bad next read added = answer bad added
   where
     first : (e : BadItems) → option_map (refusal_of (n + 1)) (fault_of items line) ≡ Some e → option_map bad_items_of (first_bad bytes) ≡ Some e
     first e same = ap (option_map bad_items_of) (first_bad_at bytes n items line next read) ∙ refused (n + 1) (fault_of items line) _ e same
+
     answer : (e : BadItems) → AddsLine items (n + 1) line (Err e) new → ReadsItems bytes (Err e)
     answer NoMemory h = tt
     answer (Byte at found) h = first (Byte at found) h

@@ -111,7 +111,9 @@ impl Items {
         if self.set.len() == LIMIT_ITEMS {
             return Err(BadItems::Many { line: number });
         }
-        let copy = item.to_vec(*self.set.allocator()).map_err(|_| BadItems::NoMemory)?;
+        let copy = item
+            .to_vec(*self.set.allocator())
+            .map_err(|_| BadItems::NoMemory)?;
         self.set.insert(copy).map_err(|_| BadItems::NoMemory)?;
         Ok(())
     }

@@ -5,6 +5,8 @@ mod errors;
 mod hashing;
 mod items;
 mod lines;
+#[cfg(test)]
+mod tests;
 
 pub use errors::BadItems;
 pub use hashing::digest;

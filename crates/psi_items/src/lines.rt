@@ -47,7 +47,11 @@ fn without_leading_blanks(line: &[u8]) -> &[u8]
 fn without_trailing_blanks(line: &[u8]) -> &[u8]
     ensures { result.now ≡ take (length line.now - suffix_len spec.is_blank line.now) line.now }
 {
-    let blanks = line.iter().rev().take_while(|byte| is_blank(**byte)).count();
+    let blanks = line
+        .iter()
+        .rev()
+        .take_while(|byte| is_blank(**byte))
+        .count();
     &line[..line.len() - blanks]
 }
 

@@ -11,6 +11,6 @@ pub returns : goal.returns
 returns c =
     let line = c.args.line.now in
     let blanks : c.count-blanks.result ≡ suffix_len is_blank line =
-        count_from_yields_List c.take_while.result _ c.count-blanks.ensures.ran (YieldsList-from_take_while _ is_blank (YieldsList-from_rev_slice line cc) c.take_while.ensures.closure c.take_while.ensures.done (λ x b q k. search (rules, tests)))
-        ∙ length-prefix_len is_blank (reverse line) in
+    count_from_yields_List c.take_while.result _ c.count-blanks.ensures.ran (YieldsList-from_take_while _ is_blank (YieldsList-from_rev_slice line cc) c.take_while.ensures.closure c.take_while.ensures.done (λ x b q k. search (rules, tests)))
+    ∙ length-prefix_len is_blank (reverse line) in
     ap (λ n. take (length line - n) line) blanks

@@ -11,13 +11,13 @@ use Rattle.psi_items.proofs.items.Items.add_item.Goals as goal
 pub returns-then-contains-clause-added : goal.returns-then-contains-clause-added
 returns-then-contains-clause-added c =
     let there : list_any (bytes_eq c.args.item.now) c.args.self.now ≡ true =
-        sym (list_any-keys c.self.inside.set.keys c.args.self.now c.args.item.now c.self.view_is) ∙ sym c.contains.ensures ∙ c.if-contains.true in
+    sym (list_any-keys c.self.inside.set.keys c.args.self.now c.args.item.now c.self.view_is) ∙ sym c.contains.ensures ∙ c.if-contains.true in
     added-repeat c.args.self.now c.args.item.now c.requires there
 
 pub returns-then-len-eq-LIMIT_ITEMS-clause-added : goal.returns-then-len-eq-LIMIT_ITEMS-clause-added
 returns-then-len-eq-LIMIT_ITEMS-clause-added c =
     let absent : list_any (bytes_eq c.args.item.now) c.args.self.now ≡ false =
-        sym (list_any-keys c.self.inside.set.keys c.args.self.now c.args.item.now c.self.view_is) ∙ sym c.contains.ensures ∙ c.if-contains.false in
+    sym (list_any-keys c.self.inside.set.keys c.args.self.now c.args.item.now c.self.view_is) ∙ sym c.contains.ensures ∙ c.if-contains.false in
     let full : length c.args.self.now ≡ limit_items = length-view c.self.inside.set.keys c.args.self.now c.self.view_is ∙ sym c.len.ensures.len ∙ c.if-len-eq-LIMIT_ITEMS.true in
     ap (option_map (refusal_of c.args.number)) (refused-full c.args.self.now c.args.item.now c.requires absent full)
 
@@ -29,8 +29,7 @@ after c =
     let copy = c.in_ok-copy.copy in
     let copied : copy.items ≡ item = search rules in
     let inserted : c.insert.new.self.keys ≡ cond (list_any (λ (v : Vec ℕ Global). bytes_eq copy.items v.items) keys) keys (keys ++ copy ∷ []) = search rules in
-    let unseen : list_any (bytes_eq item) (items_in keys) ≡ false = sym (list_any-keys keys (items_in keys) item refl) ∙ sym c.contains.ensures ∙ c.if-contains.false in
-    (
+    let unseen : list_any (bytes_eq item) (items_in keys) ≡ false = sym (list_any-keys keys (items_in keys) item refl) ∙ sym c.contains.ensures ∙ c.if-contains.false in (
       ap (list_any (bytes_eq item)) (sym c.self.view_is) ∙ unseen,
       ap items_in inserted ∙ items_in-inserted keys copy item copied unseen ∙ ap (λ items. items ++ item ∷ []) c.self.view_is,
     )

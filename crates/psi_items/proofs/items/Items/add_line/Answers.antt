@@ -42,7 +42,7 @@ returns-clause-added c =
     let clean : None ≡ find is_control (strip_carriage_return c.args.line.now) = c.in_default.ensures ∙ ap (find is_control) c.without_carriage_return-line.ensures in
     let count : length (normal c.args.line.now) ≡ length c.trimmed-text.result.now = length-normal c.args.line.now c.trimmed-text.result.now text in
     let item : c.make_ascii_lowercase.new.self ≡ normal c.args.line.now =
-        c.make_ascii_lowercase.ensures.after ∙ ap (map to_ascii_lowercase) c.copy_from_slice.ensures.after ∙ sym (normal-text c.args.line.now c.trimmed-text.result.now text) in
+    c.make_ascii_lowercase.ensures.after ∙ ap (map to_ascii_lowercase) c.copy_from_slice.ensures.after ∙ sym (normal-text c.args.line.now c.trimmed-text.result.now text) in
     let not_empty : length c.trimmed-text.result.now ≡ 0 → ⊥ = eqb-false (length c.trimmed-text.result.now) 0 (sym c.is_empty-2.ensures ∙ c.if-is_empty-2.false) in
     let some : 0 < length (normal c.args.line.now) = omega (arith, count, not_empty) in
     AddsLine-item c.args.self.now c.args.number c.args.line.now c.add_item.result c.add_item.new.self clean some

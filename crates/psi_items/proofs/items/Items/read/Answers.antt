@@ -17,9 +17,9 @@ invariant_of-items c = subst (λ (keys : List (Vec ℕ Global)). AreItems (items
 
 pub loop-line-init : goal.loop-line-init
 loop-line-init c = record {
-    count = refl;
-    read = subst (λ (keys : List (Vec ℕ Global)). HasRead c.args.bytes.now 0 (items_in keys)) (sym c.new.ensures.empty) (HasRead-begun c.args.bytes.now);
-  }
+  count = refl;
+  read = subst (λ (keys : List (Vec ℕ Global)). HasRead c.args.bytes.now 0 (items_in keys)) (sym c.new.ensures.empty) (HasRead-begun c.args.bytes.now);
+}
 
 pub loop-line-preserved : goal.loop-line-preserved
 loop-line-preserved c =
@@ -28,8 +28,8 @@ loop-line-preserved c =
     let begun = c.into_iter-line-iterator.ensures.into_iter_gives in
     let split = c.split-line-items.ensures in
     let next = next_line _ _ _ _ _ c.loop-line.number c.loop-line.yielded read.count c.loop-line.yielded_by c.next.ensures.steps _ bytes
-        (ap split_rest begun ∙ split.rest) (ap split_done begun ∙ split.done) (ap split_callee begun ∙ split.closure) (λ x b q k. search (rules, tests))
-        c.in-Some.line c.in-Some.is in
+    (ap split_rest begun ∙ split.rest) (ap split_done begun ∙ split.done) (ap split_callee begun ∙ split.closure) (λ x b q k. search (rules, tests))
+    c.in-Some.line c.in-Some.is in
     record {
       count = ap (λ n. n + 1) read.count ∙ sym (length_push c.loop-line.yielded c.in-Some.line);
       read = HasRead-more bytes c.loop-line.number c.loop-line.items c.in-Some.line.now c.add_line.new.self next read.read c.in_ok-add_line.ensures.added;
@@ -42,8 +42,8 @@ returns-in_err-add_line c =
     let begun = c.into_iter-line-iterator.ensures.into_iter_gives in
     let split = c.split-line-items.ensures in
     let next = next_line _ _ _ _ _ c.loop-line.number c.loop-line.yielded read.count c.loop-line.yielded_by c.next.ensures.steps _ bytes
-        (ap split_rest begun ∙ split.rest) (ap split_done begun ∙ split.done) (ap split_callee begun ∙ split.closure) (λ x b q k. search (rules, tests))
-        c.in-Some.line c.in-Some.is in
+    (ap split_rest begun ∙ split.rest) (ap split_done begun ∙ split.done) (ap split_callee begun ∙ split.closure) (λ x b q k. search (rules, tests))
+    c.in-Some.line c.in-Some.is in
     let failed = err_from_is_err_and c.from_residual.result c.from_residual.ensures.1 in
     let same : c.from_residual.result ≡ Err c.in_err-add_line.field-0.0 = failed.1 ∙ ap Err failed.2 in
     subst (ReadsItems bytes) (sym same) (HasRead-bad bytes c.loop-line.number c.loop-line.items c.in-Some.line.now c.add_line.new.self c.in_err-add_line.field-0.0 next read.read c.in_err-add_line.ensures.added)
@@ -55,6 +55,6 @@ returns c =
     let begun = c.into_iter-line-iterator.ensures.into_iter_gives in
     let split = c.split-line-items.ensures in
     let all = all_lines _ _ _ _ _ c.loop-line.number c.loop-line.yielded read.count c.loop-line.yielded_by c.next.ensures.steps _ bytes
-        (ap split_rest begun ∙ split.rest) (ap split_done begun ∙ split.done) (ap split_callee begun ∙ split.closure) (λ x b q k. search (rules, tests))
-        c.in-None.is in
+    (ap split_rest begun ∙ split.rest) (ap split_done begun ∙ split.done) (ap split_callee begun ∙ split.closure) (λ x b q k. search (rules, tests))
+    c.in-None.is in
     HasRead-done bytes c.loop-line.number c.loop-line.items all read.read
