@@ -1,6 +1,6 @@
 -- The items that a set's keys hold.
-use Rattle.std.proofs.Common.{◌≡◌, ℕ, ◌+◌, ◌<◌, ◌≤◌, List, [], ◌∷◌, ◌++◌, map, Bool, ◌||◌, ◌&&◌, nat_eq, true, false, not, cond, Option, Some, None, nat_lt, length, refl, ap, ap₂, sym, subst, ◌↔◌, ◌∙◌, Vec, Global, get_or, slice_get, position, Contains, IsSome, arith}
-use Rattle.std.specs.List.{prefix_len, list_any, All, position_or_len, IsDistinct}
+use Rattle.std.proofs.Common.{◌≡◌, ℕ, ◌+◌, ◌<◌, List, [], ◌∷◌, ◌++◌, map, Bool, ◌||◌, ◌&&◌, nat_eq, true, false, not, cond, Some, None, nat_lt, length, refl, ap, ap₂, sym, subst, ◌↔◌, ◌∙◌, Vec, Global, get_or, slice_get, position, Contains, arith}
+use Rattle.std.specs.List.{prefix_len, list_any, IsDistinct}
 use Rattle.std.specs.Str.{bytes_eq}
 use Rattle.std.proofs.lemmas.List.{length-map, map-append, length_push, get_or-map}
 use Rattle.std.proofs.lemmas.List.Elements.{All-get_or, All-push, All-nil}
@@ -10,7 +10,7 @@ use Rattle.std.proofs.lemmas.Cmp.{nat_list_eq_equiv}
 use Rattle.std.proofs.lemmas.Slice.Eq.{bytes_eq-Decides}
 use Rattle.std.proofs.lemmas.Option.{slice_get_within, get_or_from_slice_get}
 use Rattle.std.proofs.lemmas.Bool.{le-ltb, ne_eqb, eq-eqb}
-use Rattle.psi_spec.specs.Items.{LineFault, is_long, is_too_many, fault_of_item}
+use Rattle.psi_spec.specs.Items.{is_long, is_too_many, fault_of_item}
 use Rattle.psi_spec.specs.Limits.{limit_items, line_limit}
 use Rattle.psi_items.specs.Members.{IsItem, AreItems}
 use Rattle.psi_items.specs.Reading.{with_item}

@@ -1,5 +1,5 @@
 -- The reading of a file, one line more at a time.
-use Rattle.std.proofs.Common.{◌≡◌, ◌∙◌, sym, ap, ap₂, subst, refl, ℕ, ◌+◌, ◌<◌, ◌≤◌, List, [], ◌∷◌, ◌++◌, Bool, true, false, not, cond, ◌&&◌, nat_lt, nat_eq, map, length, take, drop, get_or, eqb, Option, Some, None, Result, Ok, Err, arith}
+use Rattle.std.proofs.Common.{◌≡◌, ◌∙◌, sym, ap, ap₂, refl, ℕ, ◌+◌, ◌<◌, List, [], ◌∷◌, ◌++◌, Bool, true, false, not, cond, ◌&&◌, nat_lt, nat_eq, map, length, take, drop, get_or, eqb, Option, Some, None, Result, Ok, Err, arith}
 use Rattle.std.specs.List.{filter, find, list_any}
 use Rattle.std.specs.Char.{to_ascii_lowercase}
 use Rattle.std.specs.Str.{bytes_eq}
@@ -9,7 +9,7 @@ use Rattle.std.proofs.lemmas.List.{append-nil, length-map, map-append, take_more
 use Rattle.std.proofs.lemmas.List.Elements.{filter-append}
 use Rattle.std.proofs.lemmas.Bool.{eq-eqb, ne_eqb, lt-ltb, cond-true}
 use Rattle.psi_spec.specs.Limits.{limit_items, line_limit}
-use Rattle.psi_spec.specs.Items.{holds_byte, is_long, is_too_many, is_control, trimmed, fault_of_item, normal, distinct, items_of_lines, items_of, lines_of, LineFault, BadLine, fault_of, first_bad, first_bad_after}
+use Rattle.psi_spec.specs.Items.{holds_byte, is_long, is_too_many, is_control, trimmed, fault_of_item, normal, distinct, items_of_lines, lines_of, LineFault, BadLine, fault_of, first_bad, first_bad_after}
 use Rattle.psi_items.specs.declared.errors.BadItems.{BadItems}
 use Rattle.psi_items.specs.declared.errors.BadItems.TheVariants.{Byte, Long, Many, NoMemory}
 use Rattle.psi_items.specs.Reading.{with_item, with_line, refusal_of, bad_items_of, AddsItem, AddsLine, ReadsItems}

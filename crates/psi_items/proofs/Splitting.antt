@@ -1,5 +1,5 @@
 -- A loop over the lines of a file, which a `split` gives.
-use Rattle.std.proofs.Common.{◌≡◌, ℕ, ◌<◌, ◌==◌, Bool, false, sym, subst, ◌∙◌, List, length, get_or, map, Option, Some, None}
+use Rattle.std.proofs.Common.{◌≡◌, ℕ, ◌<◌, ◌==◌, Bool, false, sym, subst, ◌∙◌, List, length, get_or, Option, Some, None}
 use Rattle.std.specs.declared.slice.Split.{Split}
 use Rattle.std.specs.Slice.Iter as slice
 use Rattle.std.specs.Fn.{CalledAt}

@@ -1,7 +1,6 @@
 use Rattle.std.proofs.Common.{◌≡◌, ◌∙◌, sym, ap, subst, length, true, false, option_map, rules, refl, cond, ℕ, Vec, Global, [], ◌∷◌, ◌++◌}
 use Rattle.std.specs.List.{list_any}
 use Rattle.std.specs.Str.{bytes_eq}
-use Rattle.std.proofs.lemmas.List.{length-map}
 use Rattle.psi_spec.specs.Limits.{limit_items}
 use Rattle.psi_items.specs.Members.{AreItems}
 use Rattle.psi_items.specs.Reading.{refusal_of}

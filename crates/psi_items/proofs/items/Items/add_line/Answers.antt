@@ -1,4 +1,4 @@
-use Rattle.std.proofs.Common.{◌≡◌, ◌∙◌, ◌<◌, sym, ap, subst, length, Some, None, true, option_map, map, List, [], ℕ, arith}
+use Rattle.std.proofs.Common.{◌≡◌, ◌∙◌, ◌<◌, sym, ap, subst, length, Some, None, option_map, map, List, [], ℕ, arith}
 use Rattle.std.specs.List.{find}
 use Rattle.std.specs.Char.{to_ascii_lowercase}
 use Rattle.std.specs.Str.Lines.{strip_carriage_return}

@@ -1,10 +1,7 @@
-use Rattle.std.proofs.Common.{◌≡◌, ◌∙◌, ◌<◌, ◌+◌, ◌==◌, sym, ap, subst, refl, length, get_or, Err, List, ℕ, Vec, Global, rules, tests}
+use Rattle.std.proofs.Common.{◌≡◌, ◌∙◌, ◌+◌, sym, ap, subst, refl, Err, List, ℕ, Vec, Global, rules, tests}
 use Rattle.std.proofs.lemmas.List.{length_push}
-use Rattle.std.proofs.lemmas.Iterator.Consumers.{YieldsList-at}
-use Rattle.std.proofs.lemmas.Iterator.Splits.{YieldsList-from_slice_split}
 use Rattle.std.proofs.lemmas.Result.{err_from_is_err_and}
 use Rattle.std.specs.Slice.Iter.{split_rest, split_done, split_callee}
-use Rattle.psi_spec.specs.Items.{lines_of}
 use Rattle.psi_items.specs.Members.{AreItems}
 use Rattle.psi_items.specs.Reading.{ReadsItems}
 use Rattle.psi_items.proofs.Keys.{items_in, AreItems-nil}
