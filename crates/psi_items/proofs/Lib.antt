@@ -1,0 +1,5 @@
+pub mod Distinct
+pub mod Keys
+pub mod Members
+pub mod Reading
+pub mod Splitting

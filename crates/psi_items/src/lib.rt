@@ -1,0 +1,13 @@
+//! The items of a file: its lines in their normal form, each once, in the order of their first occurrence.
+#![tactic(auto)]
+
+mod errors;
+mod hashing;
+mod items;
+mod lines;
+#[cfg(test)]
+mod tests;
+
+pub use errors::BadItems;
+pub use hashing::digest;
+pub use items::Items;
