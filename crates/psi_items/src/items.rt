@@ -19,7 +19,6 @@ const LINE_LIMIT: usize = 256;
 
 /// The items of a file: at most 65,536 distinct byte strings of 1 to 256 bytes each, in the order
 /// in which the file's lines first give them.
-#[derive(Drop)]
 pub struct Items {
     set: IndexSet<Vec<u8>>,
 }
@@ -33,6 +32,13 @@ impl Model for Items {
     ghost view = { λ s. map (λ v. v.items) s.set.keys };
 
     ghost invariant = { λ s. AreItems (map (λ v. v.items) s.set.keys) };
+}
+
+// Written out, so that callers need not look into the set to let its items go.
+impl Drop for Items {
+    fn drop(self) {
+        let Items { set: _set } = self;
+    }
 }
 
 impl Items {
@@ -137,6 +143,7 @@ impl Items {
     pub fn get(&self, i: u32) -> Option<&[u8]>
         ensures item { option_map (λ item. item.now) result ≡ slice_get self.now i }
         ensures past { IsNone result ↔ (length self.now ≤ i) }
+        ensures within { IfSome result (λ _. i < limit_items) }
         ensures length { IfSome result (λ item. (1 ≤ length item.now) × (length item.now ≤ line_limit)) }
     {
         let item = self.set.get_index(i as usize)?;
