@@ -12,10 +12,10 @@ use std::alloc::Global;
 use std::marker::Model;
 
 /// The most items of a file.
-const LIMIT_ITEMS: usize = 65536;
+const LIMIT_ITEMS: usize = psi_base::LIMIT_ITEMS as usize;
 
 /// The most bytes of an item.
-const LINE_LIMIT: usize = 256;
+const LINE_LIMIT: usize = psi_base::LINE_LIMIT as usize;
 
 /// The items of a file: at most 65,536 distinct byte strings of 1 to 256 bytes each, in the order
 /// in which the file's lines first give them.
