@@ -1,0 +1,222 @@
+-- The promises that follow from `Answers`.
+use Rattle.std.proofs.Common.{◌≡◌, ◌+◌, ◌-◌, ◌<◌, ◌≤◌, ◌++◌, ◌^◌, ℕ, Bool, true, false, List, [], length, map, take, min, nat_lt, Option, Some, None, refl, sym, ap, ◌∙◌, subst, arith, if◌then◌else◌}
+use Rattle.std.specs.Option.{option_map, option_map_or}
+use Rattle.std.specs.List.{Contains}
+use Rattle.std.proofs.lemmas.Bool.Decides.{nat_tests}
+use Rattle.std.proofs.lemmas.List.{append-nil, take_all}
+use Rattle.psi_spec.specs.Items.{BadLine, first_bad, items_of}
+use Rattle.psi_spec.specs.Limits.{bins_for, file_limit, stash_rows}
+use Rattle.psi_spec.specs.Meeting.{IsSetup, ShowsCommon, shown}
+use Rattle.psi_spec.specs.Placement.{stash_slots}
+use Rattle.psi_spec.specs.Texts.{lines_text}
+use Rattle.psi_spec.specs.Words.{bad_word, number_of, seed_of, word_at}
+use Rattle.psi_spec.proofs.Dealing.{dealt_setup}
+use Rattle.psi_spec.proofs.Meeting.{shows_common}
+use Rattle.psi_spec.proofs.Placing.{items_of-placed_of, length-stash_slots}
+use Rattle.psi_base.specs.Outside.{Outside, Files, printed_too}
+use Rattle.psi_items.specs.Reading.{bad_items_of}
+use Rattle.psi_top.specs.Form.{command_of}
+use Rattle.psi_top.specs.Local.{local_setup, local_text, most_local}
+use Rattle.psi_top.specs.Answers.{Answers, AnswersBy, Contents, Due, lacks, long, refused, prints, Follows, FollowsTold, HasCause, due_of, judged, local_due, local_rest, text_of, told}
+use Rattle.psi_top.specs.Promises.{IsBadWords, IsDue, KeepsRest, LocalPrintsShown, OnDue, PrintedShown, PrintsFront}
+use Rattle.psi_top.specs.declared.form.Command.{Command}
+use Rattle.psi_top.specs.declared.form.Command.TheVariants.{Local}
+use Rattle.psi_top.specs.declared.status.Status.{Status}
+use Rattle.psi_top.specs.declared.status.Status.TheVariants.{Done, BadWords, BadItems, FileFault, PrintFault, TooLong, LargeSet, NoMemory}
+
+-- ---- what is due
+
+-- what a run answered on told files, by what is due
+follows_told : (words : List (List ℕ)) (before : Outside) (status : Status) (after : Outside) → Answers words before status after
+    → (files : Files) (command : Command) → before.files ≡ Some files → bad_word words ≡ None → command_of words ≡ Some command → Follows (due_of command words) (told files words) before status after
+follows_told words before status after answers files command is fit named =
+    let h : HasCause before status after × FollowsTold (due_of command words) words before status after = rw (fit, named) at answers in
+    h.1 files is
+
+is_due : (due : Contents → Due) (contents : Contents) (before : Outside) (status : Status) (after : Outside) → Follows due contents before status after → IsDue status (due contents)
+is_due due contents before Done after h = (h.0, h.1)
+is_due due contents before (BadWords at) after h = absurd h
+is_due due contents before (BadItems word fault) after h = h.0
+is_due due contents before (FileFault word) after h = tt
+is_due due contents before PrintFault after h = (h.0, h.2)
+is_due due contents before (TooLong word taken) after h = h.0
+is_due due contents before (LargeSet count) after h = h.0
+is_due due contents before NoMemory after h = tt
+
+nothing_printed : (p : Option (List ℕ)) → option_map (λ (p : List ℕ). p ++ []) p ≡ p
+nothing_printed None = refl
+nothing_printed (Some p) = ap (λ (x : List ℕ). Some x) (append-nil p)
+
+prints_nothing : (before after : Outside) (status : Status) (due : Due) → after.printed ≡ before.printed → (status ≡ Done → ⊥) → PrintsFront before after status due
+prints_nothing before after status due e not_done = record {
+  count = 0;
+  printed = e ∙ sym (nothing_printed before.printed);
+  whole = λ d. absurd (not_done d);
+}
+
+prints_front : (due : Contents → Due) (contents : Contents) (before : Outside) (status : Status) (after : Outside) → Follows due contents before status after → PrintsFront before after status (due contents)
+prints_front due contents before Done after h = record {
+  count = length h.0;
+  printed = ap (λ (o : Outside). o.printed) h.2 ∙ ap (λ (t : List ℕ). option_map (λ (p : List ℕ). p ++ t) before.printed) (sym (ap (λ (d : Due). take (length h.0) (text_of d)) h.1 ∙ take_all (length h.0) h.0 (omega arith)));
+  whole = λ d. let e : length (text_of (due contents)) ≡ length h.0 = ap (λ (d : Due). length (text_of d)) h.1 in omega arith;
+}
+prints_front due contents before (BadWords at) after h = absurd h
+prints_front due contents before (BadItems word fault) after h = prints_nothing before after (BadItems word fault) (due contents) (ap (λ (o : Outside). o.printed) h.1) (λ e. cc e)
+prints_front due contents before (FileFault word) after h = prints_nothing before after (FileFault word) (due contents) (ap (λ (o : Outside). o.printed) h.1.left) (λ e. cc e)
+prints_front due contents before PrintFault after h = record {
+  count = h.1;
+  printed = ap (λ (o : Outside). o.printed) h.4.left ∙ ap (λ (d : Due). option_map (λ (p : List ℕ). p ++ take h.1 (text_of d)) before.printed) (sym h.2);
+  whole = λ e. absurd (cc e);
+}
+prints_front due contents before (TooLong word taken) after h = prints_nothing before after (TooLong word taken) (due contents) (ap (λ (o : Outside). o.printed) h.2) (λ e. cc e)
+prints_front due contents before (LargeSet count) after h = prints_nothing before after (LargeSet count) (due contents) (ap (λ (o : Outside). o.printed) h.1) (λ e. cc e)
+prints_front due contents before NoMemory after h = record {
+  count = h.count;
+  printed = ap (λ (o : Outside). o.printed) h.left;
+  whole = λ e. absurd (cc e);
+}
+
+pub answers_exact : (words : List (List ℕ)) (before : Outside) (status : Status) (after : Outside) → Answers words before status after → OnDue words before (IsDue status)
+answers_exact words before status after h = λ files command is fit named.
+    is_due (due_of command words) (told files words) before status after (follows_told words before status after h files command is fit named)
+
+pub answers_print : (words : List (List ℕ)) (before : Outside) (status : Status) (after : Outside) → Answers words before status after → OnDue words before (PrintsFront before after status)
+answers_print words before status after h = λ files command is fit named.
+    prints_front (due_of command words) (told files words) before status after (follows_told words before status after h files command is fit named)
+
+-- ---- what stays
+
+unchanged : (before after : Outside) → after ≡ before → KeepsRest before after
+unchanged before after e = record {
+  files = ap (λ (o : Outside). o.files) e;
+  file_faults = let f = ap (λ (o : Outside). o.file_faults) e in omega arith;
+  print_faults = let f = ap (λ (o : Outside). o.print_faults) e in omega arith;
+  refusals = let f = ap (λ (o : Outside). o.refusals) e in omega arith;
+}
+
+kept : (before : Outside) (status : Status) (after : Outside) → HasCause before status after → KeepsRest before after
+kept before Done after h = record {
+  files = ap (λ (o : Outside). o.files) h.1;
+  file_faults = let f = ap (λ (o : Outside). o.file_faults) h.1 in omega arith;
+  print_faults = let f = ap (λ (o : Outside). o.print_faults) h.1 in omega arith;
+  refusals = let f = ap (λ (o : Outside). o.refusals) h.1 in omega arith;
+}
+kept before (BadWords at) after h = absurd h
+kept before (BadItems word fault) after h = unchanged before after h
+kept before (FileFault word) after h = record {
+  files = ap (λ (o : Outside). o.files) h.left;
+  file_faults = h.rose.no_lower;
+  print_faults = let f = ap (λ (o : Outside). o.print_faults) h.left in omega arith;
+  refusals = let f = ap (λ (o : Outside). o.refusals) h.left in omega arith;
+}
+kept before PrintFault after h = record {
+  files = ap (λ (o : Outside). o.files) h.1.left;
+  file_faults = let f = ap (λ (o : Outside). o.file_faults) h.1.left in omega arith;
+  print_faults = h.1.rose.no_lower;
+  refusals = let f = ap (λ (o : Outside). o.refusals) h.1.left in omega arith;
+}
+kept before (TooLong word taken) after h = unchanged before after h.1
+kept before (LargeSet count) after h = unchanged before after h.1
+kept before NoMemory after h = record {
+  files = ap (λ (o : Outside). o.files) h.1.left;
+  file_faults = let f = ap (λ (o : Outside). o.file_faults) h.1.left in omega arith;
+  print_faults = let f = ap (λ (o : Outside). o.print_faults) h.1.left in omega arith;
+  refusals = h.1.no_lower;
+}
+
+pub answers_keep : (words : List (List ℕ)) (before : Outside) (status : Status) (after : Outside) → Answers words before status after → KeepsRest before after
+answers_keep words before status after = by_words (bad_word words) (command_of words)
+  where
+    by_words : (bad : Option ℕ) (command : Option Command) → AnswersBy words before status after bad command → KeepsRest before after
+    by_words (Some at) command h = unchanged before after h.1
+    by_words None None h = absurd h
+    by_words None (Some command) h = kept before status after h.0
+
+-- ---- what `local` prints
+
+-- an item file after which a text is due
+record IsRead (content : Option (List ℕ)) (next : List (List ℕ) → Due) (text : List ℕ) : Type 0 where
+  bytes : List ℕ
+  is : content ≡ Some bytes
+  good : first_bad bytes ≡ None
+  rest : next (items_of bytes) ≡ prints text
+
+judged_prints : (word : ℕ) (content : Option (List ℕ)) (next : List (List ℕ) → Due) (text : List ℕ) → judged word content next ≡ prints text → IsRead content next text
+judged_prints word None next text e = cc e
+judged_prints word (Some bytes) next text e = by_length (nat_lt file_limit (length bytes)) e
+  where
+    by_fault : (o : Option BadLine) → first_bad bytes ≡ o → option_map_or (λ bad. refused (BadItems word (bad_items_of bad))) o (next (items_of bytes)) ≡ prints text → IsRead (Some bytes) next text
+    by_fault None f e = record { bytes = bytes; is = refl; good = f; rest = e }
+    by_fault (Some bad) f e = cc e
+
+    by_length : (b : Bool) → (if b then long word else option_map_or (λ bad. refused (BadItems word (bad_items_of bad))) (first_bad bytes) (next (items_of bytes))) ≡ prints text → IsRead (Some bytes) next text
+    by_length true e = cc e
+    by_length false e = by_fault (first_bad bytes) refl e
+
+rest_prints : (words : List (List ℕ)) (xs ys : List (List ℕ)) (text : List ℕ) → local_rest words xs ys ≡ prints text → (length xs ≤ most_local) × (local_text words xs ys ≡ text)
+rest_prints words xs ys text e = by_count (nat_lt most_local (length xs)) refl e
+  where
+    by_count : (b : Bool) → nat_lt most_local (length xs) ≡ b → (if b then refused (LargeSet (length xs)) else prints (local_text words xs ys)) ≡ prints text → (length xs ≤ most_local) × (local_text words xs ys ≡ text)
+    by_count true t e = cc e
+    by_count false t e = (grind (arith, nat_tests), cc e)
+
+local_is_setup : (words : List (List ℕ)) (xs : List (List ℕ)) → length xs ≤ most_local → IsSetup stash_rows (local_setup words xs)
+unfolding local_setup
+local_is_setup words xs few = dealt_setup stash_rows (seed_of (word_at words 3)) (number_of (word_at words 4)) (number_of (word_at words 5)) xs few
+
+local_places : (words : List (List ℕ)) (xs : List (List ℕ)) → map (λ p. p.item) (local_setup words xs).placed ≡ xs
+unfolding local_setup
+local_places words xs = items_of-placed_of xs (stash_slots (bins_for (length xs)) (length xs)) (sym (length-stash_slots (bins_for (length xs)) (length xs)))
+
+text_is_shown : (words : List (List ℕ)) (xs ys : List (List ℕ)) → local_text words xs ys ≡ lines_text (shown (local_setup words xs) ys)
+unfolding local_text
+text_is_shown words xs ys = refl
+
+pub answers_shown : (words : List (List ℕ)) (before : Outside) (status : Status) (after : Outside) → Answers words before status after → IsBadWords status (bad_word words) → LocalPrintsShown words before status after
+answers_shown words before status after h bad = λ files printed now is was became named done.
+    let fit : bad_word words ≡ None = subst (λ (s : Status). IsBadWords s (bad_word words)) done bad in
+    let follows : Follows (local_due words) (told files words) before Done after = subst (λ (s : Status). Follows (local_due words) (told files words) before s after) done (follows_told words before status after h files Local is fit named) in
+    let text = follows.0 in
+    let x = judged_prints 1 (files (word_at words 1)) (λ xs. judged 2 (files (word_at words 2)) (λ ys. local_rest words xs ys)) text follows.1 in
+    let xs = items_of x.bytes in
+    let y = judged_prints 2 (files (word_at words 2)) (λ ys. local_rest words xs ys) text x.rest in
+    let ys = items_of y.bytes in
+    let rest = rest_prints words xs ys text y.rest in
+    let s = local_setup words xs in
+    let law : ShowsCommon s ys = shows_common stash_rows s ys (local_is_setup words xs rest.0) in
+    let all : Some now ≡ Some (printed ++ text) = sym became ∙ ap (λ (o : Outside). o.printed) follows.2 ∙ ap (λ (p : Option (List ℕ)). option_map (λ (p : List ℕ). p ++ text) p) was in
+    let grown : now ≡ printed ++ text = cc all in
+    record {
+      x_bytes = x.bytes;
+      y_bytes = y.bytes;
+      x_file = x.is;
+      y_file = y.is;
+      x_good = x.good;
+      y_good = y.good;
+      few = rest.0;
+      printed = grown ∙ ap (λ (t : List ℕ). printed ++ t) (sym rest.1 ∙ text_is_shown words xs ys);
+      placed = local_places words xs;
+      common = λ item in_x in_y. law.common item (subst (λ (items : List (List ℕ)). Contains items item) (sym (local_places words xs)) in_x) in_y;
+      others = law.others;
+    }
+
+-- ---- bad words
+
+-- a command never answers `BadWords`
+no_bad_words : (before : Outside) (status : Status) (after : Outside) → HasCause before status after → IsBadWords status None
+no_bad_words before Done after h = refl
+no_bad_words before (BadWords at) after h = absurd h
+no_bad_words before (BadItems word fault) after h = refl
+no_bad_words before (FileFault word) after h = refl
+no_bad_words before PrintFault after h = refl
+no_bad_words before (TooLong word taken) after h = refl
+no_bad_words before (LargeSet count) after h = refl
+no_bad_words before NoMemory after h = refl
+
+pub answers_bad_words : (words : List (List ℕ)) (before : Outside) (status : Status) (after : Outside) → Answers words before status after → IsBadWords status (bad_word words)
+answers_bad_words words before status after = by_words (bad_word words) (command_of words)
+  where
+    by_words : (bad : Option ℕ) (command : Option Command) → AnswersBy words before status after bad command → IsBadWords status bad
+    by_words (Some at) command h = subst (λ (s : Status). IsBadWords s (Some at)) (sym h.0) refl
+    by_words None None h = absurd h
+    by_words None (Some command) h = no_bad_words before status after h.0

@@ -1,0 +1,102 @@
+-- What `parse` and `from_hex` answer for words in form.
+use Rattle.std.proofs.Common.{◌≡◌, ◌+◌, ◌^◌, ◌*◌, ◌<◌, ◌≤◌, ◌&&◌, ℕ, Bool, true, false, List, [], ◌∷◌, length, refl, sym, ap, ap₂, ◌∙◌, subst, arith, nat_lt, nat_le, not, ◌==◌, cond, Ok, Err}
+use Rattle.std.specs.declared.result.Result.{Result}
+use Rattle.std.specs.Result.{is_ok, OkIff, result_unwrap_or}
+use Rattle.std.specs.Char.{is_ascii_digit}
+use Rattle.std.specs.List.{list_all}
+use Rattle.std.specs.Str.{all_ascii_digits}
+use Rattle.std.specs.Str.Parse.{ParsesUnsigned, digits_value}
+use Rattle.std.proofs.lemmas.Str.Parse.{IsNumeralModel, numerals_by_value, tells_all_ascii_digits, parse_digits, parse_gives, digits_value_short}
+use Rattle.std.proofs.lemmas.Bool.Decides.{nat_tests}
+use Rattle.std.specs.List.{AllPass}
+use Rattle.std.proofs.lemmas.List.Sums.{AllPass-from_list_all, list_all-from_AllPass}
+use Rattle.std.specs.Result.{IsOk}
+use Rattle.hex.specs.Hex.{decode_sized, decode_of, is_hex_digit}
+use Rattle.hex.specs.declared.error.FromHexError.{FromHexError}
+use Rattle.hex.proofs.HexLemmas.{IsOk-decode_sized, decode_sized-twice}
+use Rattle.psi_spec.specs.Words.{are_digits, is_seed, is_session, is_tag_length, number_of, seed_of}
+
+-- two spellings of one test
+list_all-digits : (word : List ℕ) → list_all is_ascii_digit word ≡ all_ascii_digits word
+list_all-digits [] = refl
+list_all-digits (c ∷ word) = ap (λ b. is_ascii_digit c && b) (list_all-digits word)
+
+numerals : IsNumeralModel (λ word. all_ascii_digits word ≡ true) (digits_value 10)
+numerals = numerals_by_value (λ word. all_ascii_digits word ≡ true) tells_all_ascii_digits
+
+both_true : (a b : Bool) → (a && b) ≡ true → (a ≡ true) × (b ≡ true)
+both_true true b e = (refl, e)
+both_true false b e = cc e
+
+-- what it means that a word has 1 to `most` digits
+pub record HasDigits (most : ℕ) (word : List ℕ) : Type 0 where
+  pub some : 1 ≤ length word
+  pub few : length word ≤ most
+  pub digits : all_ascii_digits word ≡ true
+
+pub has_digits : (most : ℕ) (word : List ℕ) → are_digits most word ≡ true → HasDigits most word
+has_digits most word e =
+    let first = both_true (nat_le 1 (length word)) (nat_le (length word) most && list_all is_ascii_digit word) e in
+    let second = both_true (nat_le (length word) most) (list_all is_ascii_digit word) first.1 in
+    let some : nat_le 1 (length word) ≡ true = first.0 in
+    let few : nat_le (length word) most ≡ true = second.0 in
+    record { some = grind (arith, nat_tests); few = grind (arith, nat_tests); digits = sym (list_all-digits word) ∙ second.1 }
+
+variant : {E : Type 0} (bits : ℕ) (v : ℕ) (word : List ℕ) (r : Result ℕ E) → 1 ≤ length word → OkIff r ((0 < length word) × (v < 2 ^ bits)) v → is_ok r ≡ nat_lt v (2 ^ bits)
+variant bits v word (Ok x) some h = let small : v < 2 ^ bits = h.0.1 in grind (arith, nat_tests)
+variant bits v word (Err e) some h = let large : v < 2 ^ bits → ⊥ = λ l. h (omega arith, l) in grind (arith, nat_tests)
+
+-- `parse` succeeds exactly where the number fits
+pub parse_fits : {E : Type 0} (bits most : ℕ) (word : List ℕ) (r : Result ℕ E) → ParsesUnsigned bits 10 word r → HasDigits most word → is_ok r ≡ nat_lt (number_of word) (2 ^ bits)
+parse_fits bits most word r h d = variant bits (number_of word) word r d.some (parse_digits numerals bits word r h d.digits)
+
+-- and then answers the number
+pub parse_number : {E : Type 0} (bits most : ℕ) (word : List ℕ) (r : Result ℕ E) → ParsesUnsigned bits 10 word r → HasDigits most word → number_of word < 2 ^ bits → r ≡ Ok (number_of word)
+parse_number bits most word r h d small = parse_gives numerals bits word r h d.digits (let s = d.some in omega arith) small
+
+-- a number of two digits is below 100
+pub two_digits : (word : List ℕ) → HasDigits 2 word → number_of word < 100
+two_digits word d = digits_value_short numerals word 2 d.digits d.few
+
+-- what the form of a session says
+pub session_parts : (word : List ℕ) → is_session word ≡ true → HasDigits 20 word × (number_of word < 2 ^ 64)
+session_parts word e =
+    let parts = both_true (are_digits 20 word) (nat_lt (number_of word) (2 ^ 64)) e in
+    let small : nat_lt (number_of word) (2 ^ 64) ≡ true = parts.1 in
+    (has_digits 20 word parts.0, grind (arith, nat_tests))
+
+-- what the form of a tag length says
+pub tag_length_parts : (word : List ℕ) → is_tag_length word ≡ true → HasDigits 2 word × (1 ≤ number_of word) × (number_of word ≤ 16)
+tag_length_parts word e =
+    let parts = both_true (are_digits 2 word) (nat_le 1 (number_of word) && nat_le (number_of word) 16) e in
+    let ends = both_true (nat_le 1 (number_of word)) (nat_le (number_of word) 16) parts.1 in
+    let low : nat_le 1 (number_of word) ≡ true = ends.0 in
+    let high : nat_le (number_of word) 16 ≡ true = ends.1 in
+    (has_digits 2 word parts.0, grind (arith, nat_tests), grind (arith, nat_tests))
+
+same_test : (a b : Bool) → (a ≡ true → b ≡ true) → (b ≡ true → a ≡ true) → a ≡ b
+same_test true b to from = sym (to refl)
+same_test false true to from = from refl
+same_test false false to from = refl
+
+-- hexadecimal digits are read exactly where a word has the form of a seed
+pub decoded_sized : (word : List ℕ) → is_ok (decode_sized word 32) ≡ is_seed word
+decoded_sized word =
+    let both = IsOk-decode_sized word 32 in
+    same_test (is_ok (decode_sized word 32)) (is_seed word)
+    (λ ok. let h = both.0 ok in
+    let long : (length word == 64) ≡ true = let e = h.0 in grind (arith, nat_tests) in
+    rw (long, list_all-from_AllPass is_hex_digit word h.1) refl)
+    (λ seed. let h = both_true (length word == 64) (list_all is_hex_digit word) seed in
+    let long : (length word == 64) ≡ true = h.0 in
+    let even : length word ≡ 2 * 32 = grind (arith, nat_tests) in
+    both.1 (even, AllPass-from_list_all is_hex_digit word h.1))
+
+-- what is read is the seed
+pub decoded_seed : (word seed : List ℕ) → is_seed word ≡ true → decode_sized word 32 ≡ Ok seed → seed ≡ seed_of word
+unfolding seed_of
+decoded_seed word seed form e =
+    let h = both_true (length word == 64) (list_all is_hex_digit word) form in
+    let long : (length word == 64) ≡ true = h.0 in
+    let even : length word ≡ 2 * 32 = grind (arith, nat_tests) in
+    sym (ap (λ (r : Result (List ℕ) FromHexError). result_unwrap_or r []) (sym (decode_sized-twice word 32 even) ∙ e))

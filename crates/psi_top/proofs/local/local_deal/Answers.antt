@@ -1,0 +1,10 @@
+use Rattle.psi_spec.specs.Words.{number_of, seed_of, word_at}
+use Rattle.psi_top.proofs.LocalWords.{local_words, ready_of}
+use Rattle.psi_top.proofs.WordValues.{tag_length_parts}
+use Rattle.psi_top.proofs.local.local_deal.Goals as goal
+
+pub returns-clause-ready : goal.returns-clause-ready
+returns-clause-ready c =
+    let words = c.args.words.now in
+    let parts = tag_length_parts (word_at words 5) (local_words words c.requires.fit c.requires.named).tag_length in
+    ready_of (seed_of (word_at words 3)) (number_of (word_at words 4)) (number_of (word_at words 5)) _ parts.1 parts.2 (rw (c.seed_of-seed.ensures, c.session_of-session.ensures, c.tag_length_of-tag_length.ensures, c.word_at.ensures, c.word_at-2.ensures, c.word_at-3.ensures) at c.new.ensures)

@@ -1,0 +1,51 @@
+-- The numbers of the statuses, and the lines that name their faults.
+use Rattle.std.specs.Prelude.{ℕ, List, [], ◌∷◌, ◌++◌, codes, decimal}
+use Rattle.psi_items.specs.declared.errors.BadItems.{BadItems}
+use Rattle.psi_items.specs.declared.errors.BadItems.TheVariants as items
+use Rattle.psi_top.specs.declared.status.Status.{Status}
+use Rattle.psi_top.specs.declared.status.Status.TheVariants.{Done, BadWords, BadItems as RefusedItems, FileFault, PrintFault, TooLong, LargeSet, NoMemory}
+
+-- the number of a status
+abbrev pub number_of_status : Status → ℕ
+number_of_status Done = 0
+number_of_status (BadWords at) = 2
+number_of_status (RefusedItems word fault) = 3
+number_of_status (FileFault word) = 10
+number_of_status PrintFault = 12
+number_of_status (TooLong word taken) = 13
+number_of_status (LargeSet count) = 16
+number_of_status NoMemory = 70
+
+-- how a line about the file of a word begins
+abbrev pub word_front : ℕ → List ℕ
+word_front word = codes "psi: word " ++ decimal word ++ codes ": "
+
+-- how a line about one line of that file begins
+abbrev pub line_front : ℕ → ℕ → List ℕ
+line_front word line = word_front word ++ codes "line " ++ decimal line ++ codes ": "
+
+-- the line for want of memory
+abbrev pub no_memory_text : List ℕ
+no_memory_text = codes "psi: no memory\n"
+
+-- the line of a fault of an item file
+abbrev pub items_text : ℕ → BadItems → List ℕ
+items_text word (items.Byte line found) = line_front word line ++ codes "byte " ++ decimal found ++ codes "\n"
+items_text word (items.Long line length) = line_front word line ++ codes "item of " ++ decimal length ++ codes " bytes\n"
+items_text word (items.Many line) = line_front word line ++ codes "too many items\n"
+items_text word items.NoMemory = no_memory_text
+
+-- the line of a file that is too long
+abbrev pub too_long_text : ℕ → ℕ → List ℕ
+too_long_text word taken = word_front word ++ codes "too long after " ++ decimal taken ++ codes " bytes\n"
+
+-- the line that names a status's fault, with a line feed; nothing where the run is done
+abbrev pub fault_text : Status → List ℕ
+fault_text Done = []
+fault_text (BadWords at) = codes "psi: bad word at " ++ decimal at ++ codes "\n"
+fault_text (RefusedItems word fault) = items_text word fault
+fault_text (FileFault word) = word_front word ++ codes "file fault\n"
+fault_text PrintFault = codes "psi: print fault\n"
+fault_text (TooLong word taken) = too_long_text word taken
+fault_text (LargeSet count) = codes "psi: large set of " ++ decimal count ++ codes " items\n"
+fault_text NoMemory = no_memory_text

@@ -1,0 +1,18 @@
+//! The commands: their words, what they answer, and `run`, which does all that the program does.
+#![tactic(auto)]
+
+mod comparing;
+mod dealing;
+mod entry;
+mod form;
+mod local;
+mod status;
+mod steps;
+mod texts;
+mod values;
+
+pub use entry::run;
+pub use form::{Command, Form, bad_word, named_command};
+pub use local::local_command;
+pub use status::{Outcome, Status, status_number};
+pub use texts::fault_line;
