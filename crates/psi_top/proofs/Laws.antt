@@ -18,11 +18,31 @@ use Rattle.psi_items.specs.Reading.{bad_items_of}
 use Rattle.psi_top.specs.Form.{command_of}
 use Rattle.psi_top.specs.Local.{local_setup, local_text, most_local}
 use Rattle.psi_top.specs.Answers.{Answers, AnswersBy, Contents, Due, lacks, long, refused, prints, Follows, FollowsTold, HasCause, due_of, judged, local_due, local_rest, text_of, told}
-use Rattle.psi_top.specs.Promises.{IsBadWords, IsDue, KeepsRest, LocalPrintsShown, OnDue, PrintedShown, PrintsFront}
+use Rattle.psi_top.specs.Promises.{HasBoth, HasItems, IsBadWords, IsCaused, IsDue, IsSized, KeepsRest, LocalIsSized, LocalPrintsShown, OnDue, PrintedShown, PrintsFront}
 use Rattle.psi_top.specs.declared.form.Command.{Command}
 use Rattle.psi_top.specs.declared.form.Command.TheVariants.{Local}
 use Rattle.psi_top.specs.declared.status.Status.{Status}
 use Rattle.psi_top.specs.declared.status.Status.TheVariants.{Done, BadWords, BadItems, FileFault, PrintFault, TooLong, LargeSet, NoMemory}
+
+-- ---- causes
+
+caused : (before : Outside) (status : Status) (after : Outside) → HasCause before status after → IsCaused before status after
+caused before Done after h = tt
+caused before (BadWords at) after h = tt
+caused before (BadItems word fault) after h = tt
+caused before (FileFault word) after h = h.rose
+caused before PrintFault after h = h.1.rose
+caused before (TooLong word taken) after h = h.0
+caused before (LargeSet count) after h = h.0
+caused before NoMemory after h = tt
+
+pub answers_caused : (words : List (List ℕ)) (before : Outside) (status : Status) (after : Outside) → Answers words before status after → IsCaused before status after
+answers_caused words before status after = by_words (bad_word words) (command_of words)
+  where
+    by_words : (bad : Option ℕ) (command : Option Command) → AnswersBy words before status after bad command → IsCaused before status after
+    by_words (Some at) command h = subst (λ (s : Status). IsCaused before s after) (sym h.0) tt
+    by_words None None h = absurd h
+    by_words None (Some command) h = caused before status after h.0
 
 -- ---- what is due
 
@@ -134,24 +154,60 @@ answers_keep words before status after = by_words (bad_word words) (command_of w
 
 -- ---- what `local` prints
 
--- an item file after which a text is due
-record IsRead (content : Option (List ℕ)) (next : List (List ℕ) → Due) (text : List ℕ) : Type 0 where
+-- what is due only once both files have items
+FromRest : Due → Type 0
+FromRest (lacks word) = ⊥
+FromRest (long word) = ⊥
+FromRest (refused (BadItems word fault)) = ⊥
+FromRest (refused Done) = Unit {0}
+FromRest (refused (BadWords at)) = Unit {0}
+FromRest (refused (FileFault word)) = Unit {0}
+FromRest (refused PrintFault) = Unit {0}
+FromRest (refused (TooLong word taken)) = Unit {0}
+FromRest (refused (LargeSet count)) = Unit {0}
+FromRest (refused NoMemory) = Unit {0}
+FromRest (prints text) = Unit {0}
+
+-- an item file that was read before this was due
+record IsRead (content : Option (List ℕ)) (next : List (List ℕ) → Due) (due : Due) : Type 0 where
   bytes : List ℕ
   is : content ≡ Some bytes
+  short : length bytes ≤ file_limit
   good : first_bad bytes ≡ None
-  rest : next (items_of bytes) ≡ prints text
+  rest : next (items_of bytes) ≡ due
 
-judged_prints : (word : ℕ) (content : Option (List ℕ)) (next : List (List ℕ) → Due) (text : List ℕ) → judged word content next ≡ prints text → IsRead content next text
-judged_prints word None next text e = cc e
-judged_prints word (Some bytes) next text e = by_length (nat_lt file_limit (length bytes)) e
+judged_rest : (word : ℕ) (content : Option (List ℕ)) (next : List (List ℕ) → Due) (due : Due) → FromRest due → judged word content next ≡ due → IsRead content next due
+unfolding FromRest
+judged_rest word None next due later e = absurd (subst FromRest (sym e) later)
+judged_rest word (Some bytes) next due later e = by_length (nat_lt file_limit (length bytes)) refl e
   where
-    by_fault : (o : Option BadLine) → first_bad bytes ≡ o → option_map_or (λ bad. refused (BadItems word (bad_items_of bad))) o (next (items_of bytes)) ≡ prints text → IsRead (Some bytes) next text
-    by_fault None f e = record { bytes = bytes; is = refl; good = f; rest = e }
-    by_fault (Some bad) f e = cc e
+    by_fault : length bytes ≤ file_limit → (o : Option BadLine) → first_bad bytes ≡ o → option_map_or (λ bad. refused (BadItems word (bad_items_of bad))) o (next (items_of bytes)) ≡ due → IsRead (Some bytes) next due
+    by_fault short None f e = record { bytes = bytes; is = refl; short = short; good = f; rest = e }
+    by_fault short (Some bad) f e = absurd (subst FromRest (sym e) later)
 
-    by_length : (b : Bool) → (if b then long word else option_map_or (λ bad. refused (BadItems word (bad_items_of bad))) (first_bad bytes) (next (items_of bytes))) ≡ prints text → IsRead (Some bytes) next text
-    by_length true e = cc e
-    by_length false e = by_fault (first_bad bytes) refl e
+    by_length : (b : Bool) → nat_lt file_limit (length bytes) ≡ b → (if b then long word else option_map_or (λ bad. refused (BadItems word (bad_items_of bad))) (first_bad bytes) (next (items_of bytes))) ≡ due → IsRead (Some bytes) next due
+    by_length true t e = absurd (subst FromRest (sym e) later)
+    by_length false t e = by_fault (grind (arith, nat_tests)) (first_bad bytes) refl e
+
+-- both files were read before this was due
+record AreRead (words : List (List ℕ)) (files : Files) (due : Due) : Type 0 where
+  xs : List (List ℕ)
+  ys : List (List ℕ)
+  x_file : HasItems words files 1 xs
+  y_file : HasItems words files 2 ys
+  rest : local_rest words xs ys ≡ due
+
+local_reads : (words : List (List ℕ)) (files : Files) (due : Due) → FromRest due → local_due words (told files words) ≡ due → AreRead words files due
+local_reads words files due later e =
+    let x = judged_rest 1 (files (word_at words 1)) (λ xs. judged 2 (files (word_at words 2)) (λ ys. local_rest words xs ys)) due later e in
+    let y = judged_rest 2 (files (word_at words 2)) (λ ys. local_rest words (items_of x.bytes) ys) due later x.rest in
+    record {
+      xs = items_of x.bytes;
+      ys = items_of y.bytes;
+      x_file = record { bytes = x.bytes; file = x.is; short = x.short; good = x.good; read = refl };
+      y_file = record { bytes = y.bytes; file = y.is; short = y.short; good = y.good; read = refl };
+      rest = y.rest;
+    }
 
 rest_prints : (words : List (List ℕ)) (xs ys : List (List ℕ)) (text : List ℕ) → local_rest words xs ys ≡ prints text → (length xs ≤ most_local) × (local_text words xs ys ≡ text)
 rest_prints words xs ys text e = by_count (nat_lt most_local (length xs)) refl e
@@ -159,6 +215,35 @@ rest_prints words xs ys text e = by_count (nat_lt most_local (length xs)) refl e
     by_count : (b : Bool) → nat_lt most_local (length xs) ≡ b → (if b then refused (LargeSet (length xs)) else prints (local_text words xs ys)) ≡ prints text → (length xs ≤ most_local) × (local_text words xs ys ≡ text)
     by_count true t e = cc e
     by_count false t e = (grind (arith, nat_tests), cc e)
+
+rest_refuses : (words : List (List ℕ)) (xs ys : List (List ℕ)) (count : ℕ) → local_rest words xs ys ≡ refused (LargeSet count) → (count ≡ length xs) × (most_local < count)
+rest_refuses words xs ys count e = by_count (nat_lt most_local (length xs)) refl e
+  where
+    by_count : (b : Bool) → nat_lt most_local (length xs) ≡ b → (if b then refused (LargeSet (length xs)) else prints (local_text words xs ys)) ≡ refused (LargeSet count) → (count ≡ length xs) × (most_local < count)
+    by_count true t e = let same : length xs ≡ count = cc e in (sym same, (grind (arith, nat_tests)))
+    by_count false t e = cc e
+
+few_of : (words : List (List ℕ)) (files : Files) (text : List ℕ) → local_due words (told files words) ≡ prints text → HasBoth words files (λ xs. length xs ≤ most_local)
+unfolding FromRest
+few_of words files text e =
+    let both = local_reads words files (prints text) tt e in
+    record { xs = both.xs; ys = both.ys; x_file = both.x_file; y_file = both.y_file; fact = (rest_prints words both.xs both.ys text both.rest).0 }
+
+is_sized : (words : List (List ℕ)) (files : Files) (before : Outside) (status : Status) (after : Outside) → Follows (local_due words) (told files words) before status after → IsSized words files status
+unfolding FromRest
+is_sized words files before Done after h = few_of words files h.0 h.1
+is_sized words files before (BadWords at) after h = tt
+is_sized words files before (BadItems word fault) after h = tt
+is_sized words files before (FileFault word) after h = tt
+is_sized words files before PrintFault after h = few_of words files h.0 h.2
+is_sized words files before (TooLong word taken) after h = tt
+is_sized words files before (LargeSet count) after h =
+    let both = local_reads words files (refused (LargeSet count)) tt h.0 in
+    record { xs = both.xs; ys = both.ys; x_file = both.x_file; y_file = both.y_file; fact = rest_refuses words both.xs both.ys count both.rest }
+is_sized words files before NoMemory after h = tt
+
+pub answers_sized : (words : List (List ℕ)) (before : Outside) (status : Status) (after : Outside) → Answers words before status after → LocalIsSized words before status
+answers_sized words before status after h = λ files is fit named. is_sized words files before status after (follows_told words before status after h files Local is fit named)
 
 local_is_setup : (words : List (List ℕ)) (xs : List (List ℕ)) → length xs ≤ most_local → IsSetup stash_rows (local_setup words xs)
 unfolding local_setup
@@ -173,26 +258,24 @@ unfolding local_text
 text_is_shown words xs ys = refl
 
 pub answers_shown : (words : List (List ℕ)) (before : Outside) (status : Status) (after : Outside) → Answers words before status after → IsBadWords status (bad_word words) → LocalPrintsShown words before status after
+unfolding FromRest
 answers_shown words before status after h bad = λ files printed now is was became named done.
     let fit : bad_word words ≡ None = subst (λ (s : Status). IsBadWords s (bad_word words)) done bad in
     let follows : Follows (local_due words) (told files words) before Done after = subst (λ (s : Status). Follows (local_due words) (told files words) before s after) done (follows_told words before status after h files Local is fit named) in
     let text = follows.0 in
-    let x = judged_prints 1 (files (word_at words 1)) (λ xs. judged 2 (files (word_at words 2)) (λ ys. local_rest words xs ys)) text follows.1 in
-    let xs = items_of x.bytes in
-    let y = judged_prints 2 (files (word_at words 2)) (λ ys. local_rest words xs ys) text x.rest in
-    let ys = items_of y.bytes in
-    let rest = rest_prints words xs ys text y.rest in
+    let both = local_reads words files (prints text) tt follows.1 in
+    let xs = both.xs in
+    let ys = both.ys in
+    let rest = rest_prints words xs ys text both.rest in
     let s = local_setup words xs in
     let law : ShowsCommon s ys = shows_common stash_rows s ys (local_is_setup words xs rest.0) in
     let all : Some now ≡ Some (printed ++ text) = sym became ∙ ap (λ (o : Outside). o.printed) follows.2 ∙ ap (λ (p : Option (List ℕ)). option_map (λ (p : List ℕ). p ++ text) p) was in
     let grown : now ≡ printed ++ text = cc all in
     record {
-      x_bytes = x.bytes;
-      y_bytes = y.bytes;
-      x_file = x.is;
-      y_file = y.is;
-      x_good = x.good;
-      y_good = y.good;
+      xs = xs;
+      ys = ys;
+      x_file = both.x_file;
+      y_file = both.y_file;
       few = rest.0;
       printed = grown ∙ ap (λ (t : List ℕ). printed ++ t) (sym rest.1 ∙ text_is_shown words xs ys);
       placed = local_places words xs;

@@ -1,11 +1,11 @@
 -- What callers read from `Answers`.
-use Rattle.std.specs.Prelude.{◌≡◌, ◌≤◌, ◌++◌, ℕ, List, Contains, length, map, take, Option, Some, None, option_map}
+use Rattle.std.specs.Prelude.{◌≡◌, ◌<◌, ◌≤◌, ◌++◌, ℕ, List, Contains, length, map, take, Option, Some, None, option_map}
 use Rattle.psi_spec.specs.Items.{first_bad, items_of}
 use Rattle.psi_spec.specs.Limits.{file_limit}
 use Rattle.psi_spec.specs.Meeting.{Placed, SharesTag, shown, shown_placed}
 use Rattle.psi_spec.specs.Texts.{lines_text}
 use Rattle.psi_spec.specs.Words.{bad_word, word_at}
-use Rattle.psi_base.specs.Outside.{Outside, Files}
+use Rattle.psi_base.specs.Outside.{Outside, Files, Rose}
 use Rattle.psi_top.specs.Form.{command_of}
 use Rattle.psi_top.specs.Local.{local_setup, most_local}
 use Rattle.psi_top.specs.Answers.{Due, due_of, lacks, long, refused, prints, text_of, told}
@@ -53,19 +53,59 @@ pub record KeepsRest (before after : Outside) : Type 0 where
   pub print_faults : before.print_faults ≤ after.print_faults
   pub refusals : before.refusals ≤ after.refusals
 
--- `local` printed the receiver's items that are shown: all common items, and others that share a tag with the sender's item that each names
+-- what each answer rests on, in every world: a count that rose, or a number past its limit
+abbrev pub IsCaused : Outside → Status → Outside → Type 0
+IsCaused before Done after = Unit {0}
+IsCaused before (BadWords at) after = Unit {0}
+IsCaused before (BadItems word fault) after = Unit {0}
+IsCaused before (FileFault word) after = Rose before.file_faults after.file_faults
+IsCaused before PrintFault after = Rose before.print_faults after.print_faults
+IsCaused before (TooLong word taken) after = file_limit < taken
+IsCaused before (LargeSet count) after = most_local < count
+IsCaused before NoMemory after = Unit {0}
+
+-- the file of a word is there, is short enough and has no line with a fault, and these are its items
+pub record HasItems (words : List (List ℕ)) (files : Files) (word : ℕ) (items : List (List ℕ)) : Type 0 where
+  pub bytes : List ℕ
+  pub file : files (word_at words word) ≡ Some bytes
+  pub short : length bytes ≤ file_limit
+  pub good : first_bad bytes ≡ None
+  pub read : items ≡ items_of bytes
+
+-- both files of `local` have items, and a fact holds of the receiver's
+pub record HasBoth (words : List (List ℕ)) (files : Files) (P : List (List ℕ) → Type 0) : Type 0 where
+  pub xs : List (List ℕ)
+  pub ys : List (List ℕ)
+  pub x_file : HasItems words files 1 xs
+  pub y_file : HasItems words files 2 ys
+  pub fact : P xs
+
+-- the size of the receiver's set is judged once both files have items
+abbrev pub IsSized : List (List ℕ) → Files → Status → Type 0
+IsSized words files Done = HasBoth words files (λ xs. length xs ≤ most_local)
+IsSized words files (BadWords at) = Unit {0}
+IsSized words files (BadItems word fault) = Unit {0}
+IsSized words files (FileFault word) = Unit {0}
+IsSized words files PrintFault = HasBoth words files (λ xs. length xs ≤ most_local)
+IsSized words files (TooLong word taken) = Unit {0}
+IsSized words files (LargeSet count) = HasBoth words files (λ xs. (count ≡ length xs) × (most_local < count))
+IsSized words files NoMemory = Unit {0}
+
+-- the same where `local` ran and the files are told
+abbrev pub LocalIsSized : List (List ℕ) → Outside → Status → Type 0
+LocalIsSized words before status = (files : Files) → before.files ≡ Some files → bad_word words ≡ None → command_of words ≡ Some Local → IsSized words files status
+
+-- `local` printed the receiver's items that are shown: every common item, and others of which each shares its tag with the sender's item that it names
 pub record PrintedShown (words : List (List ℕ)) (files : Files) (before after : List ℕ) : Type 0 where
-  pub x_bytes : List ℕ
-  pub y_bytes : List ℕ
-  pub x_file : files (word_at words 1) ≡ Some x_bytes
-  pub y_file : files (word_at words 2) ≡ Some y_bytes
-  pub x_good : first_bad x_bytes ≡ None
-  pub y_good : first_bad y_bytes ≡ None
-  pub few : length (items_of x_bytes) ≤ most_local
-  pub printed : after ≡ before ++ lines_text (shown (local_setup words (items_of x_bytes)) (items_of y_bytes))
-  pub placed : map (λ p. p.item) (local_setup words (items_of x_bytes)).placed ≡ items_of x_bytes
-  pub common : (item : List ℕ) → Contains (items_of x_bytes) item → Contains (items_of y_bytes) item → Contains (shown (local_setup words (items_of x_bytes)) (items_of y_bytes)) item
-  pub others : (p : Placed) → Contains (shown_placed (local_setup words (items_of x_bytes)) (items_of y_bytes)) p → SharesTag (local_setup words (items_of x_bytes)) (items_of y_bytes) p
+  pub xs : List (List ℕ)
+  pub ys : List (List ℕ)
+  pub x_file : HasItems words files 1 xs
+  pub y_file : HasItems words files 2 ys
+  pub few : length xs ≤ most_local
+  pub printed : after ≡ before ++ lines_text (shown (local_setup words xs) ys)
+  pub placed : map (λ p. p.item) (local_setup words xs).placed ≡ xs
+  pub common : (item : List ℕ) → Contains xs item → Contains ys item → Contains (shown (local_setup words xs) ys) item
+  pub others : (p : Placed) → Contains (shown_placed (local_setup words xs) ys) p → SharesTag (local_setup words xs) ys p
 
 -- where `local` is done, and the files and what is printed are told
 abbrev pub LocalPrintsShown : List (List ℕ) → Outside → Status → Outside → Type 0

@@ -1,7 +1,7 @@
 // The top call.
 ghost use Rattle.psi_spec.specs.Words.{bad_word};
 ghost use Rattle.psi_top.specs.Answers.{Answers};
-ghost use Rattle.psi_top.specs.Promises.{IsBadWords, IsDue, KeepsRest, LocalPrintsShown, OnDue, PrintsFront};
+ghost use Rattle.psi_top.specs.Promises.{IsBadWords, IsCaused, IsDue, KeepsRest, LocalIsSized, LocalPrintsShown, OnDue, PrintsFront};
 
 use crate::form::{Command, bad_word, named_command};
 use crate::local::local_command;
@@ -34,8 +34,14 @@ pub fn run<W: World>(alloc: Global, words: &Words, world: &mut W) -> Outcome
     // A bad word is refused at its place, and no other words are.
     ensures bad_words { IsBadWords result.status (bad_word words.now) }
 
+    // A fault of a file or of printing comes only where its count rose, and a file is too long only past the limit.
+    ensures cause { IsCaused (W.outside world.old) result.status (W.outside world.new) }
+
     // Where the files are told, each refusal of a file or a set comes only where it is due, in order.
     ensures exact { OnDue words.now (W.outside world.old) (IsDue result.status) }
+
+    // A set is large where both files have items and the receiver's are more than four, and else it never is.
+    ensures sized { LocalIsSized words.now (W.outside world.old) result.status }
 
     // A front of the text that is due is printed, and all of it where the run is done.
     ensures prints { OnDue words.now (W.outside world.old) (PrintsFront (W.outside world.old) (W.outside world.new) result.status) }

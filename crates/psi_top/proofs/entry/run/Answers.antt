@@ -1,4 +1,4 @@
-use Rattle.psi_top.proofs.Laws.{answers_bad_words, answers_exact, answers_keep, answers_print, answers_shown}
+use Rattle.psi_top.proofs.Laws.{answers_bad_words, answers_caused, answers_exact, answers_keep, answers_print, answers_shown, answers_sized}
 use Rattle.psi_top.proofs.entry.run.Goals as goal
 
 pub returns-clause-exact : goal.returns-clause-exact
@@ -9,6 +9,12 @@ returns-clause-prints g c = answers_print c.args.words.now (g.W.World.outside c.
 
 pub returns-clause-kept : goal.returns-clause-kept
 returns-clause-kept g c = answers_keep c.args.words.now (g.W.World.outside c.args.world.now) c.answer.result.status (g.W.World.outside c.answer.new.world) c.answer.ensures
+
+pub returns-clause-cause : goal.returns-clause-cause
+returns-clause-cause g c = answers_caused c.args.words.now (g.W.World.outside c.args.world.now) c.answer.result.status (g.W.World.outside c.answer.new.world) c.answer.ensures
+
+pub returns-clause-sized : goal.returns-clause-sized
+returns-clause-sized g c = answers_sized c.args.words.now (g.W.World.outside c.args.world.now) c.answer.result.status (g.W.World.outside c.answer.new.world) c.answer.ensures
 
 pub returns-clause-bad_words : goal.returns-clause-bad_words
 returns-clause-bad_words g c = answers_bad_words c.args.words.now (g.W.World.outside c.args.world.now) c.answer.result.status (g.W.World.outside c.answer.new.world) c.answer.ensures
