@@ -1,13 +1,13 @@
 -- The steps of the loops that make the receiver's comparisons, compare the sender's items and write what was met.
-use Rattle.std.proofs.Common.{◌≡◌, ◌+◌, ◌-◌, ◌<◌, ◌≤◌, ◌||◌, ℕ, zero, suc, Bool, true, false, cond, List, [], ◌∷◌, ◌++◌, length, map, take, drop, get_or, Option, Some, None, refl, sym, ap, ◌∙◌, subst, arith, append_assoc}
+use Rattle.std.proofs.Common.{◌≡◌, ◌+◌, ◌<◌, ◌≤◌, ◌||◌, ℕ, zero, suc, Bool, true, false, cond, List, [], ◌∷◌, ◌++◌, length, map, take, drop, get_or, Some, None, refl, sym, ap, ◌∙◌, arith, append_assoc}
 use Rattle.std.specs.List.{slice_get, list_any}
 use Rattle.std.proofs.Math.ListN.{set}
 use Rattle.std.proofs.Math.Bool.{or_assoc}
-use Rattle.std.proofs.lemmas.List.{append-nil, length-append, length-map, length-take-le, take_more, take-append-le, take_all}
+use Rattle.std.proofs.lemmas.List.{append-nil, length-map, length-take-le, take_more, take-append-le, take_all}
 use Rattle.std.proofs.lemmas.List.Folds.{list_any-append}
 use Rattle.psi_spec.specs.Formulas.{code, item_digest}
 use Rattle.psi_spec.specs.Texts.{lines_text}
-use Rattle.psi_spec.proofs.Printing.{flagged, flagged-more, lines_text-flagged_more}
+use Rattle.psi_spec.proofs.Printing.{flagged}
 use Rattle.psi_top.specs.Comparing.{meets_code, after_code, after_items, comparison_at, comparisons_from, met_items}
 use Rattle.psi_top.specs.declared.dealing.Dealt.{Dealt}
 use Rattle.psi_top.specs.declared.comparing.Comparison.{Comparison}

@@ -1,5 +1,5 @@
 -- The promises that follow from `Answers`.
-use Rattle.std.proofs.Common.{◌≡◌, ◌+◌, ◌-◌, ◌<◌, ◌≤◌, ◌++◌, ◌^◌, ℕ, Bool, true, false, List, [], length, map, take, min, nat_lt, Option, Some, None, refl, sym, ap, ◌∙◌, subst, arith, if◌then◌else◌}
+use Rattle.std.proofs.Common.{◌≡◌, ◌<◌, ◌≤◌, ◌++◌, ℕ, Bool, true, false, List, [], length, map, take, nat_lt, Option, Some, None, refl, sym, ap, ◌∙◌, subst, arith, if◌then◌else◌}
 use Rattle.std.specs.Option.{option_map, option_map_or}
 use Rattle.std.specs.List.{Contains}
 use Rattle.std.proofs.lemmas.Bool.Decides.{nat_tests}
@@ -13,12 +13,12 @@ use Rattle.psi_spec.specs.Words.{bad_word, number_of, seed_of, word_at}
 use Rattle.psi_spec.proofs.Dealing.{dealt_setup}
 use Rattle.psi_spec.proofs.Meeting.{shows_common}
 use Rattle.psi_spec.proofs.Placing.{items_of-placed_of, length-stash_slots}
-use Rattle.psi_base.specs.Outside.{Outside, Files, printed_too}
+use Rattle.psi_base.specs.Outside.{Outside, Files}
 use Rattle.psi_items.specs.Reading.{bad_items_of}
 use Rattle.psi_top.specs.Form.{command_of}
 use Rattle.psi_top.specs.Local.{local_setup, local_text, most_local}
 use Rattle.psi_top.specs.Answers.{Answers, AnswersBy, Contents, Due, lacks, long, refused, prints, Follows, FollowsTold, HasCause, due_of, judged, local_due, local_rest, text_of, told}
-use Rattle.psi_top.specs.Promises.{HasBoth, HasItems, IsBadWords, IsCaused, IsDue, IsSized, KeepsRest, LocalIsSized, LocalPrintsShown, OnDue, PrintedShown, PrintsFront}
+use Rattle.psi_top.specs.Promises.{HasBoth, HasItems, IsBadWords, IsCaused, IsDue, IsSized, KeepsRest, LocalIsSized, LocalPrintsShown, OnDue, PrintsFront}
 use Rattle.psi_top.specs.declared.form.Command.{Command}
 use Rattle.psi_top.specs.declared.form.Command.TheVariants.{Local}
 use Rattle.psi_top.specs.declared.status.Status.{Status}

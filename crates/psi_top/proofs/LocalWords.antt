@@ -4,12 +4,11 @@ use Rattle.std.specs.declared.result.Result.{Result}
 use Rattle.std.specs.List.{slice_get}
 use Rattle.std.specs.Option.{option_map_or}
 use Rattle.std.specs.Str.{bytes_eq}
-use Rattle.psi_spec.specs.Words.{Form, bad_from, bad_word, forms_of, word_at, local_forms, is_name, is_seed, is_session, is_tag_length}
+use Rattle.psi_spec.specs.Words.{Form, bad_from, bad_word, word_at, local_forms, is_name, is_seed, is_session, is_tag_length}
 use Rattle.psi_spec.proofs.Dealing.{length-deal_bytes}
 use Rattle.psi_top.specs.Comparing.{IsDealt, IsReady}
 use Rattle.psi_top.specs.Form.{command_of}
 use Rattle.psi_top.specs.declared.dealing.Dealt.{Dealt}
-use Rattle.psi_top.specs.declared.form.Command.{Command}
 use Rattle.psi_top.specs.declared.form.Command.TheVariants.{Local}
 
 -- the first form is met, and the others are

@@ -1,13 +1,13 @@
 -- The rows of a deal, as two loops make them: bits one by one, and then bytes of eight.
-use Rattle.std.proofs.Common.{◌≡◌, ◌+◌, ◌-◌, ◌*◌, ◌/◌, ◌%◌, ◌<◌, ◌≤◌, ℕ, zero, suc, List, [], ◌∷◌, ◌++◌, length, map, take, drop, get_or, replicate, refl, sym, ap, ◌∙◌, arith}
+use Rattle.std.proofs.Common.{◌≡◌, ◌+◌, ◌-◌, ◌*◌, ◌/◌, ◌%◌, ◌<◌, ℕ, zero, suc, List, [], ◌∷◌, ◌++◌, length, map, take, drop, get_or, replicate, refl, sym, ap, ◌∙◌, arith}
 use Rattle.std.proofs.Math.ListN.{set}
-use Rattle.std.proofs.lemmas.List.{take_more_set, take_all, map-append, length-map, get_or-set_same, get_or-set_other, set_past}
+use Rattle.std.proofs.lemmas.List.{take_more_set, take_all, map-append, length-map}
 use Rattle.std.proofs.lemmas.Grind.{common_steps}
 use Rattle.std.proofs.lemmas.Nat.Bits.{bit_at-lt}
 use Rattle.psi_spec.specs.Bits.{bit_of, byte_of, bytes_of}
 use Rattle.psi_spec.specs.Columns.{key_stream, row_of}
 use Rattle.psi_spec.specs.Deals.{SeedPair, seed_pairs}
-use Rattle.psi_spec.proofs.Packing.{bits_at, bytes_of-more, byte_of-take, row_of_whole}
+use Rattle.psi_spec.proofs.Packing.{bytes_of-more, byte_of-take, row_of_whole}
 use Rattle.psi_spec.proofs.Dealing.{length-seed_pairs, seed_pairs-more, pair_from}
 use Rattle.psi_top.specs.Dealing.{zero_bit, zero_bits, zero_row}
 

@@ -1,5 +1,5 @@
 -- What the comparisons of `local` met is what is shown.
-use Rattle.std.proofs.Common.{◌≡◌, ◌+◌, ◌<◌, ◌≤◌, ◌||◌, ℕ, Bool, List, [], ◌∷◌, length, map, drop, refl, sym, ap, ◌∙◌, arith}
+use Rattle.std.proofs.Common.{◌≡◌, ◌+◌, ◌<◌, ◌≤◌, ℕ, Bool, List, [], ◌∷◌, length, map, drop, refl, sym, ap, ◌∙◌, arith}
 use Rattle.std.specs.List.{Contains, list_any}
 use Rattle.std.specs.Str.{bytes_eq}
 use Rattle.psi_spec.specs.Limits.{bins_for, rows_for, stash_rows}
@@ -8,12 +8,12 @@ use Rattle.psi_spec.specs.Formulas.{code, item_digest, wide_tag}
 use Rattle.psi_spec.specs.Columns.{row_of}
 use Rattle.psi_spec.specs.Deals.{dealt_receiver, dealt_sender, zero_columns}
 use Rattle.psi_spec.specs.Placement.{Slot, stash_slots}
-use Rattle.psi_spec.specs.Meeting.{Placed, Setup, IsSetup, placed_of, setup_of, row_word, meets, shown}
+use Rattle.psi_spec.specs.Meeting.{Placed, Setup, IsSetup, placed_of, row_word, meets}
 use Rattle.psi_spec.specs.Texts.{lines_text}
 use Rattle.psi_spec.specs.Words.{word_at, seed_of, number_of}
 use Rattle.psi_spec.proofs.Lists.{Contains-here, Contains-later}
 use Rattle.psi_spec.proofs.Placing.{row_word_of_placed, length-stash_slots}
-use Rattle.psi_spec.proofs.Comparing.{sender_row, peer_word_opened, meets_by_wide_tags}
+use Rattle.psi_spec.proofs.Comparing.{peer_word_opened, meets_by_wide_tags}
 use Rattle.psi_spec.proofs.Printing.{flagged, flags_of, shown_by_flags}
 use Rattle.psi_spec.proofs.Dealing.{row_of-zero_columns, dealt_setup}
 use Rattle.psi_top.specs.Dealing.{zero_row}

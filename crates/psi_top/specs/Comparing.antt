@@ -1,11 +1,10 @@
 -- The parts of the computation of `local`: the rows of a deal, and the receiver's items as the sender's are compared with them.
-use Rattle.std.specs.Prelude.{◌≡◌, ℕ, ◌+◌, ◌≤◌, ◌||◌, length, Bool, false, List, [], ◌∷◌, ◌++◌, map, take, drop, cond}
+use Rattle.std.specs.Prelude.{◌≡◌, ℕ, ◌+◌, ◌≤◌, ◌||◌, length, Bool, false, List, [], ◌∷◌, take, drop, cond}
 use Rattle.std.specs.List.{list_any}
 use Rattle.std.specs.Str.{bytes_eq}
 use Rattle.psi_spec.specs.Bits.{xor, both}
 use Rattle.psi_spec.specs.Formulas.{code, item_digest, wide_tag}
 use Rattle.psi_spec.specs.Deals.{deal_bytes}
-use Rattle.psi_spec.specs.Texts.{lines_text}
 use Rattle.psi_top.specs.Dealing.{zero_row}
 use Rattle.psi_top.specs.declared.dealing.Dealt.{Dealt}
 use Rattle.psi_top.specs.declared.comparing.Comparison.{Comparison}

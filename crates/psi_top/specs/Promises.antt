@@ -8,7 +8,7 @@ use Rattle.psi_spec.specs.Words.{bad_word, word_at}
 use Rattle.psi_base.specs.Outside.{Outside, Files, Rose}
 use Rattle.psi_top.specs.Form.{command_of}
 use Rattle.psi_top.specs.Local.{local_setup, most_local}
-use Rattle.psi_top.specs.Answers.{Due, due_of, lacks, long, refused, prints, text_of, told}
+use Rattle.psi_top.specs.Answers.{Due, due_of, long, refused, prints, text_of, told}
 use Rattle.psi_top.specs.declared.form.Command.{Command}
 use Rattle.psi_top.specs.declared.form.Command.TheVariants.{Local}
 use Rattle.psi_top.specs.declared.status.Status.{Status}

@@ -1,5 +1,5 @@
 -- The numbers of the statuses, and the lines that name their faults.
-use Rattle.std.specs.Prelude.{ℕ, List, [], ◌∷◌, ◌++◌, codes, decimal}
+use Rattle.std.specs.Prelude.{ℕ, List, [], ◌++◌, codes, decimal}
 use Rattle.psi_items.specs.declared.errors.BadItems.{BadItems}
 use Rattle.psi_items.specs.declared.errors.BadItems.TheVariants as items
 use Rattle.psi_top.specs.declared.status.Status.{Status}

@@ -1,4 +1,4 @@
-use Rattle.std.proofs.Common.{◌≡◌, ◌∙◌, ap, List, get_or}
+use Rattle.std.proofs.Common.{◌∙◌, ap, List, get_or}
 use Rattle.std.proofs.Math.ListN.{set}
 use Rattle.psi_top.specs.Comparing.{after_code}
 use Rattle.psi_top.specs.declared.comparing.Comparison.{Comparison}

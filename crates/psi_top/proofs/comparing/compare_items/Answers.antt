@@ -1,4 +1,4 @@
-use Rattle.std.proofs.Common.{◌≡◌, ◌∙◌, arith}
+use Rattle.std.proofs.Common.{arith}
 use Rattle.psi_top.proofs.Compared.{after_none, one_item, stands_at}
 use Rattle.psi_top.proofs.comparing.compare_items.Goals as goal
 

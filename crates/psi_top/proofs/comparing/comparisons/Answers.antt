@@ -1,4 +1,4 @@
-use Rattle.std.proofs.Common.{◌≡◌, ◌∙◌, ◌++◌, ◌∷◌, [], List, ap, sym, arith, take}
+use Rattle.std.proofs.Common.{◌∙◌, ◌++◌, ◌∷◌, [], List, ap, sym, arith, take}
 use Rattle.psi_top.specs.Comparing.{comparisons_from}
 use Rattle.psi_top.specs.declared.comparing.Comparison.{Comparison}
 use Rattle.psi_top.proofs.Compared.{one_comparison, stands_at}

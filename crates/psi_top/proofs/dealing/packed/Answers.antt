@@ -1,4 +1,4 @@
-use Rattle.std.proofs.Common.{◌≡◌, ◌<◌, ◌∙◌, length, arith, ℕ, List, take, subst}
+use Rattle.std.proofs.Common.{◌≡◌, ◌<◌, ◌∙◌, length, arith, ℕ, take, subst}
 use Rattle.std.proofs.lemmas.List.{length-set}
 use Rattle.psi_spec.specs.Bits.{bytes_of}
 use Rattle.psi_top.proofs.Rows.{one_byte, bytes_made}

@@ -1,4 +1,4 @@
-use Rattle.std.proofs.Common.{◌≡◌, ◌<◌, ◌∙◌, length, arith, ℕ, List, take, drop, map, subst, refl, ◌*◌, ◌+◌, ◌-◌}
+use Rattle.std.proofs.Common.{◌≡◌, ◌<◌, ◌∙◌, length, arith, ℕ, take, drop, map, subst, refl, ◌*◌, ◌+◌, ◌-◌}
 use Rattle.std.proofs.lemmas.List.{length-set}
 use Rattle.psi_spec.specs.Columns.{key_stream}
 use Rattle.psi_spec.specs.Deals.{seed_pairs}

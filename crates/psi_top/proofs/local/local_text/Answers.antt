@@ -1,5 +1,4 @@
-use Rattle.std.proofs.Common.{◌≡◌, ◌∙◌, List, ℕ, ap, length, map, subst, Vec, Global, IfOk}
-use Rattle.std.specs.declared.result.Result.{Result}
+use Rattle.std.proofs.Common.{◌≡◌, ◌∙◌, List, ℕ, ap, length, map, subst, IfOk}
 use Rattle.std.proofs.lemmas.List.{length-map}
 use Rattle.psi_spec.specs.Limits.{bins_for}
 use Rattle.psi_spec.specs.Texts.{lines_text}

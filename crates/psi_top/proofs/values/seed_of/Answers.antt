@@ -1,4 +1,4 @@
-use Rattle.std.proofs.Common.{◌≡◌, ◌∙◌, ap, sym}
+use Rattle.std.proofs.Common.{◌∙◌, ap, sym}
 use Rattle.std.specs.Result.{is_ok}
 use Rattle.psi_top.proofs.WordValues.{decoded_sized, decoded_seed}
 use Rattle.psi_top.proofs.values.seed_of.Goals as goal

@@ -1,5 +1,4 @@
-use Rattle.std.proofs.Common.{refl, ◌≡◌, Ok}
-use Rattle.psi_spec.specs.Words.{number_of}
+use Rattle.std.proofs.Common.{refl}
 use Rattle.psi_top.proofs.WordValues.{session_parts, parse_number}
 use Rattle.psi_top.proofs.values.session_of.Goals as goal
 

@@ -1,4 +1,4 @@
-use Rattle.std.proofs.Common.{refl, ◌≡◌, ◌<◌, ◌^◌, Ok, arith}
+use Rattle.std.proofs.Common.{refl, ◌<◌, ◌^◌, arith}
 use Rattle.psi_spec.specs.Words.{number_of}
 use Rattle.psi_top.proofs.WordValues.{tag_length_parts, parse_number}
 use Rattle.psi_top.proofs.values.tag_length_of.Goals as goal

@@ -1,4 +1,4 @@
-use Rattle.std.proofs.Common.{◌≡◌, ◌∙◌, ap, drop, List, ℕ}
+use Rattle.std.proofs.Common.{◌∙◌, ap, drop, List, ℕ}
 use Rattle.std.proofs.lemmas.List.{take_rest}
 use Rattle.psi_spec.specs.Bits.{bytes_of}
 use Rattle.psi_top.specs.Dealing.{zero_bits}
