@@ -4,6 +4,7 @@
 mod errors;
 mod hashing;
 mod items;
+pub mod laws;
 mod lines;
 #[cfg(test)]
 mod tests;
