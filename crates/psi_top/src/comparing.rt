@@ -9,13 +9,16 @@ use psi_items::{Items, digest};
 use psi_oprf::{Tag, Word512, code, own_tag, peer_tag};
 use std::alloc::{AllocError, Global};
 
-/// An item of the receiver at its row: its own tag, the word that the sender has of the row, and
-/// whether the item met one of the sender's.
+/// An item of the receiver at its row.
 #[derive(Clone, Copy)]
 pub struct Comparison {
+    /// The row.
     pub row: u32,
+    /// The item's own tag.
     pub own: Tag,
+    /// The word that the sender has of the row once it opened the columns.
     pub opened: Word512,
+    /// Whether the item met one of the sender's.
     pub met: bool,
 }
 

@@ -18,10 +18,15 @@ const FRONT: usize = 96;
 /// What a dealer gives to both ends of a session.
 #[derive(Drop)]
 pub struct Dealt {
+    /// The key of codes, bins and tags.
     pub key: [u8; 16],
+    /// The sender's choice word.
     pub choice: Word512,
+    /// The bytes of the deal.
     pub bytes: Vec<u8>,
+    /// The number of the session.
     pub session: u64,
+    /// The length of a tag in bytes, from 1 to 16.
     pub tag_length: u8,
 }
 

@@ -40,9 +40,9 @@ fn local_text(alloc: Global, words: &Words, x: &Items, y: &Items) -> Result<Vec<
     ensures { IfOk result (λ text. text.items ≡ local_text words.now x.now y.now) }
 {
     let dealt = local_deal(alloc, words)?;
-    let mut met = comparisons(alloc, &dealt, bins(x.len()), x)?;
-    compare_items(&dealt, y, &mut met);
-    met_text(alloc, &met, x)
+    let mut compared = comparisons(alloc, &dealt, bins(x.len()), x)?;
+    compare_items(&dealt, y, &mut compared);
+    met_text(alloc, &compared, x)
 }
 
 // What is done once both files are read.

@@ -13,7 +13,7 @@ met_text-requires c =
     let dealt = c.in_ok-dealt.dealt in
     let xs = c.args.x.now in
     let ys = c.args.y.now in
-    let compared = after_loan dealt c.bins.result xs ys c.in_ok-met.met.len c.in_ok-met.met.items c.deref_mut.result.now c.compare_items.new.comparisons c.deref.result.now c.deref_mut.ensures.value c.deref_mut.ensures.len c.in_ok-met.ensures c.compare_items.ensures c.deref.ensures.value in
+    let compared = after_loan dealt c.bins.result xs ys c.in_ok-compared.compared.len c.in_ok-compared.compared.items c.deref_mut.result.now c.compare_items.new.comparisons c.deref.result.now c.deref_mut.ensures.value c.deref_mut.ensures.len c.in_ok-compared.ensures c.compare_items.ensures c.deref.ensures.value in
     ap length compared ∙ length-map (comparisons_from dealt c.bins.result xs) (after_items dealt ys) ∙ length-comparisons_from dealt c.bins.result xs
 
 pub returns : goal.returns
@@ -21,7 +21,7 @@ returns c =
     let dealt = c.in_ok-dealt.dealt in
     let xs = c.args.x.now in
     let ys = c.args.y.now in
-    let compared = after_loan dealt c.bins.result xs ys c.in_ok-met.met.len c.in_ok-met.met.items c.deref_mut.result.now c.compare_items.new.comparisons c.deref.result.now c.deref_mut.ensures.value c.deref_mut.ensures.len c.in_ok-met.ensures c.compare_items.ensures c.deref.ensures.value in
+    let compared = after_loan dealt c.bins.result xs ys c.in_ok-compared.compared.len c.in_ok-compared.compared.items c.deref_mut.result.now c.compare_items.new.comparisons c.deref.result.now c.deref_mut.ensures.value c.deref_mut.ensures.len c.in_ok-compared.ensures c.compare_items.ensures c.deref.ensures.value in
     let bins : c.bins.result ≡ bins_for (length xs) = c.bins.ensures ∙ ap bins_for c.len.ensures.len in
     let same = ap (λ (cs : List Comparison). lines_text (met_items cs xs)) (compared ∙ ap (λ (row : ℕ). map (after_items dealt ys) (comparisons_from dealt row xs)) bins)
     ∙ met_is_shown c.args.words.now xs ys dealt c.in_ok-dealt.ensures.dealt c.requires.few in
