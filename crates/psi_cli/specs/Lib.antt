@@ -1,0 +1,2 @@
+pub mod RealWorld
+pub mod Refused
