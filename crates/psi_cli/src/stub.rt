@@ -25,7 +25,7 @@ pub fn run<W: World>(alloc: Global, words: &Words, world: &mut W) -> Outcome {
 }
 
 fn shown<W: World>(alloc: Global, words: &Words, world: &mut W) -> Status {
-    let Some(name) = words.get(0) else {
+    let Some(name) = words.get(1) else {
         return Status::BadWords;
     };
     match world.read_file(alloc, name, FILE_LIMIT) {
