@@ -1,5 +1,6 @@
--- What the real outside tells, and what a refused call of it answers and leaves.
-use Rattle.std.specs.Prelude.{◌≡◌, ◌≢◌, ◌<◌, ◌≤◌, ℕ, List, length, None, Result, Ok, Err}
+-- What the real outside tells, and what a call of it that was refused answers and leaves.
+use Rattle.std.specs.Prelude.{◌≡◌, ◌≢◌, ◌<◌, ◌≤◌, ℕ, List, length, Option, None, Result, Ok, Err, IfSome}
+use Rattle.std.specs.IoError.{error_kind}
 use Rattle.std.specs.declared.io.ErrorKind.{ErrorKind}
 use Rattle.std.specs.declared.io.ErrorKind.TheVariants as kind
 use Rattle.psi_base.specs.Memory.{next_count}
@@ -8,6 +9,8 @@ use Rattle.psi_base.specs.declared.faults.Fault.{Fault}
 use Rattle.psi_base.specs.declared.faults.Fault.TheVariants as fault
 use Rattle.psi_base.specs.declared.faults.ReadFault.{ReadFault}
 use Rattle.psi_base.specs.declared.faults.ReadFault.TheVariants as read
+use Rattle.psi_cli.specs.declared.real.Unread.{Unread}
+use Rattle.psi_cli.specs.declared.real.Unread.TheVariants as unread
 
 -- an outside that tells no content, with these counts of file faults, print faults and refusals
 abbrev pub untold : ℕ → ℕ → ℕ → Outside
@@ -19,20 +22,20 @@ untold file_faults print_faults refusals = record {
   refusals = refusals;
 }
 
--- the bytes are answered where they are at most max, and how many were taken where they are more
-abbrev pub WholeWithin : List ℕ → ℕ → Result (List ℕ) ReadFault → Type 0
-WholeWithin bytes max (Ok all) = (length bytes ≤ max) × (all ≡ bytes)
-WholeWithin bytes max (Err (read.TooLong taken)) = (max < taken) × (taken ≡ length bytes)
-WholeWithin bytes max (Err read.Failed) = ⊥
-WholeWithin bytes max (Err read.NoMemory) = ⊥
+-- what a read of a content of at most max bytes answers, given the content where it is known
+abbrev pub ReadsWhole : Option (List ℕ) → ℕ → Result (List ℕ) Unread → Type 0
+ReadsWhole content max (Ok bytes) = (length bytes ≤ max) × IfSome content (λ all. bytes ≡ all)
+ReadsWhole content max (Err (unread.TooLong taken)) = (max < taken) × IfSome content (λ all. max < length all)
+ReadsWhole content max (Err (unread.Refused error)) = Unit {0}
 
--- what a read that std refused answers and leaves: want of memory is not counted, and every other cause is
-abbrev pub ReadRefused : Outside → ErrorKind → ReadFault → Outside → Type 0
-ReadRefused old cause read.NoMemory new = (cause ≡ kind.OutOfMemory) × (new ≡ old)
-ReadRefused old cause read.Failed new = (cause ≢ kind.OutOfMemory) × FileFailed old new × (new.file_faults ≡ next_count old.file_faults)
-ReadRefused old cause (read.TooLong taken) new = ⊥
+-- the fault that is told of a content that was not read, and what it leaves: a refused call is counted, unless std names it as want of memory
+abbrev pub CountsRead : Outside → Unread → ReadFault → Outside → Type 0
+CountsRead old (unread.TooLong taken) fault new = (fault ≡ read.TooLong taken) × (new ≡ old)
+CountsRead old (unread.Refused error) read.NoMemory new = (error_kind error ≡ kind.OutOfMemory) × (new ≡ old)
+CountsRead old (unread.Refused error) read.Failed new = (error_kind error ≢ kind.OutOfMemory) × FileFailed old new × (new.file_faults ≡ next_count old.file_faults)
+CountsRead old (unread.Refused error) (read.TooLong taken) new = ⊥
 
--- what a print that std refused answers and leaves: each cause has its count
+-- the fault that is told of a refused print, and what it leaves: it is counted by its kind
 abbrev pub PrintRefused : Outside → ErrorKind → Fault → Outside → Type 0
 PrintRefused old cause fault.NoMemory new = (cause ≡ kind.OutOfMemory) × Refused old new × (new.refusals ≡ next_count old.refusals)
 PrintRefused old cause fault.Failed new = (cause ≢ kind.OutOfMemory) × PrintFailed old new × (new.print_faults ≡ next_count old.print_faults)

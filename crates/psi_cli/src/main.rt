@@ -1,55 +1,43 @@
 // The program psi: the commands over the real outside.
 #![tactic(auto)]
 
+mod arguments;
 mod real;
 mod stub;
 
-ghost use Rattle.std.specs.Prelude.{◌≡◌, IfOk, drop, map, string_bytes};
-ghost use Rattle.std.specs.Vec.Iter.{into_iter_items};
+ghost use Rattle.std.specs.Prelude.{◌≡◌};
 
-use psi_base::{NoMemory, Words};
+use arguments::{BadArguments, read_words};
 use real::RealWorld;
-use std::alloc::Global;
-use std::env::{self, Args};
 use std::io::{self, Write};
 use std::process::ExitCode;
 use stub::{Status, fault_line, run, status_number};
 
-// The words of a command: the arguments after the program's name.
-fn words_of(alloc: Global, arguments: Args) -> Result<Words, NoMemory>
-    ensures { IfOk result (λ words. words ≡ map string_bytes (drop 1 (into_iter_items arguments))) }
-{
-    let mut words = Words::new(alloc);
-    for argument in arguments.skip(1) {
-        words.push(argument.as_str())?;
-    }
-    Ok(words)
-}
-
-// Writes the line of a status. Where that fails, the status's number still tells it.
-fn report<W: Write>(errors: &mut W, status: &Status) {
+// Writes the line of a status.
+fn report<W: Write>(errors: &mut W, status: &Status) -> io::Result<()> {
     let mut line = [0; 120];
     let length = fault_line(status, &mut line);
-    let _ = errors.write_all(&line[..length]);
+    errors.write_all(&line[..length])
+}
+
+// Reports a status, and answers its number. Where the report fails, the number still tells it.
+fn end<W: Write>(errors: &mut W, status: &Status) -> ExitCode {
+    let _ = report(errors, status);
+    ExitCode::from(status_number(status))
 }
 
 fn main(rt: HostRuntime) -> ExitCode {
     let alloc = rt.alloc();
     let mut errors = rt.stderr();
-    let words = match env::args(&rt) {
-        Ok(arguments) => words_of(alloc, arguments),
-        Err(error) => {
-            if error.kind() != io::ErrorKind::OutOfMemory {
-                let _ = errors.write_all(b"psi: bad arguments\n");
-                return ExitCode::from(2);
-            }
-            Err(NoMemory)
+    match read_words(&rt) {
+        Ok(words) => {
+            let outcome = run(alloc, &words, &mut RealWorld::new(rt));
+            end(&mut errors, &outcome.status)
         }
-    };
-    let status = match words {
-        Ok(words) => run(alloc, &words, &mut RealWorld::new(rt)).status,
-        Err(NoMemory) => Status::NoMemory,
-    };
-    report(&mut errors, &status);
-    ExitCode::from(status_number(&status))
+        Err(BadArguments::NoMemory) => end(&mut errors, &Status::NoMemory),
+        Err(BadArguments::NotText) => {
+            let _ = errors.write_all(b"psi: bad arguments\n");
+            ExitCode::from(2)
+        }
+    }
 }

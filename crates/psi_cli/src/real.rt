@@ -1,9 +1,9 @@
 // The real outside: the files of the system, and standard output.
-ghost use Rattle.std.specs.Prelude.{◌≡◌, ◌<◌, IfOk, IfSome, length, take};
-ghost use Rattle.std.specs.IoError.{error_kind};
+ghost use Rattle.std.specs.Prelude.{◌≡◌, ◌<◌, length};
 ghost use Rattle.psi_base.specs.Memory.{next_count};
 ghost use Rattle.psi_base.specs.Outside.{Prints, Reads, items_of};
-ghost use Rattle.psi_cli.specs.Refused.{untold, ReadRefused, PrintRefused, WholeWithin};
+ghost use Rattle.psi_cli.specs.Refused.{untold, CountsRead, PrintRefused, ReadsWhole};
+ghost use Rattle.psi_cli.specs.declared.real.Unread.TheVariants as unread;
 
 use psi_base::{Fault, ReadFault, World};
 use std::alloc::Global;
@@ -21,22 +21,32 @@ pub struct RealWorld<R: Files + Print + Drop> {
     refusals: u64,
 }
 
-// The first `limit` bytes that a reader has left, and all of them where they are fewer.
-fn first_bytes<F: Read + Drop>(alloc: Global, reader: F, limit: u64) -> io::Result<Vec<u8>>
-    ensures { IfOk result (λ bytes. IfSome (F.remaining reader) (λ all. bytes.items ≡ take limit all)) }
-{
-    let mut bytes = Vec::new(alloc);
-    reader.take(limit).read_to_end(&mut bytes)?;
-    Ok(bytes)
+// Why a content was not read whole.
+#[derive(Clone, Copy)]
+enum Unread {
+    // It is longer than was allowed.
+    TooLong { taken: u64 },
+    // The system refused a call.
+    Refused(io::Error),
 }
 
-// A whole content of at most `max` bytes, given its first bytes, of which one more is enough.
-fn whole(bytes: Vec<u8>, max: u32) -> Result<Vec<u8>, ReadFault>
-    ensures { WholeWithin bytes.items max (items_of result) }
+impl From<io::Error> for Unread {
+    ghost from_gives = { λ error u. u ≡ unread.Refused error };
+
+    fn from(error: io::Error) -> Unread {
+        Unread::Refused(error)
+    }
+}
+
+// All the bytes that a reader has left, which are at most `max`. At most one more is taken.
+fn read_whole<F: Read + Drop>(alloc: Global, reader: F, max: u32) -> Result<Vec<u8>, Unread>
+    ensures { ReadsWhole (F.remaining reader) max (items_of result) }
 {
+    let mut bytes = Vec::new(alloc);
+    reader.take(u64::from(max) + 1).read_to_end(&mut bytes)?;
     let taken = bytes.len() as u64;
     if taken > u64::from(max) {
-        return Err(ReadFault::TooLong { taken });
+        return Err(Unread::TooLong { taken });
     }
     Ok(bytes)
 }
@@ -56,19 +66,24 @@ impl<R: Files + Print + Drop> RealWorld<R> {
         }
     }
 
-    // Why a read was refused. Each cause but want of memory is counted.
-    fn refused_read(&mut self, error: &io::Error) -> ReadFault
-        ensures { ReadRefused (outside_of self.old) (error_kind error.now) result (outside_of self.new) }
+    // The fault of a read. A refused call is counted, unless memory was wanting.
+    fn read_fault(&mut self, unread: Unread) -> ReadFault
+        ensures { CountsRead (outside_of self.old) unread result (outside_of self.new) }
     {
-        if error.kind() == io::ErrorKind::OutOfMemory {
-            return ReadFault::NoMemory;
+        match unread {
+            Unread::TooLong { taken } => ReadFault::TooLong { taken },
+            Unread::Refused(error) if error.kind() == io::ErrorKind::OutOfMemory => {
+                ReadFault::NoMemory
+            }
+            Unread::Refused(_) => {
+                self.file_faults = self.file_faults.saturating_add(1);
+                ReadFault::Failed
+            }
         }
-        self.file_faults = self.file_faults.saturating_add(1);
-        ReadFault::Failed
     }
 
-    // Why a print was refused. Each cause is counted.
-    fn refused_print(&mut self, kind: io::ErrorKind) -> Fault
+    // The fault of a print, which is counted.
+    fn print_fault(&mut self, kind: io::ErrorKind) -> Fault
         ensures { PrintRefused (outside_of self.old) kind result (outside_of self.new) }
     {
         if kind == io::ErrorKind::OutOfMemory {
@@ -77,6 +92,13 @@ impl<R: Files + Print + Drop> RealWorld<R> {
         }
         self.print_faults = self.print_faults.saturating_add(1);
         Fault::Failed
+    }
+
+    fn read_named(&self, alloc: Global, name: &str, max: u32) -> Result<Vec<u8>, Unread>
+        ensures { ReadsWhole None max (items_of result) }
+    {
+        let file = fs::open(&self.rt, name)?;
+        read_whole(alloc, file, max)
     }
 }
 
@@ -88,13 +110,12 @@ impl<R: Files + Print + Drop> World for RealWorld<R> {
     /// As `World` says. At most one byte more than `max` is taken.
     fn read_file(&mut self, alloc: Global, name: &str, max: u32) -> Result<Vec<u8>, ReadFault>
         ensures reads { Reads (outside_of self.old) name.now max (items_of result) (outside_of self.new) }
-        ensures counted { result ≡ Err ReadFault.Failed →
+        ensures failed { result ≡ Err ReadFault.Failed →
             (outside_of self.new).file_faults ≡ next_count (outside_of self.old).file_faults }
     {
-        let limit = u64::from(max) + 1;
-        match fs::open(&self.rt, name).and_then(|file| first_bytes(alloc, file, limit)) {
-            Ok(bytes) => whole(bytes, max),
-            Err(error) => Err(self.refused_read(&error)),
+        match self.read_named(alloc, name, max) {
+            Ok(bytes) => Ok(bytes),
+            Err(unread) => Err(self.read_fault(unread)),
         }
     }
 
@@ -108,9 +129,9 @@ impl<R: Files + Print + Drop> World for RealWorld<R> {
             (outside_of self.new).refusals ≡ next_count (outside_of self.old).refusals }
     {
         match io::writer(&self.rt).write(bytes) {
-            Ok(0) => Err(self.refused_print(io::ErrorKind::WriteZero)),
+            Ok(0) => Err(self.print_fault(io::ErrorKind::WriteZero)),
             Ok(count) => Ok(count),
-            Err(error) => Err(self.refused_print(error.kind())),
+            Err(error) => Err(self.print_fault(error.kind())),
         }
     }
 }
