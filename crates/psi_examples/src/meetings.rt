@@ -1,8 +1,8 @@
-// Items that meet others by their short tags, found by programs apart from this one.
-use crate::runs::{ZERO_SEED, words_of, world_of};
-use psi_top::{Status, run};
+// Items that are shown though they are not common, since a short tag of theirs is met by chance. The
+// texts were found by programs apart from this one.
+use crate::runs::{ZERO_SEED, expect_run, world_of};
+use psi_top::Status;
 use std::alloc::{AllocError, Global};
-use std::fmt::Write;
 use std::test::Fail;
 
 /// The lines y0 to y199.
@@ -14,29 +14,27 @@ fn numbered_lines(alloc: Global) -> Result<String, AllocError> {
     Ok(lines)
 }
 
+/// The name of a row, the number of a session, the length of a tag, and the text that is printed.
+const MEETINGS: &[(&str, &str, &str, &[u8])] = &[
+    ("session 0, 1 byte", "0", "1", b""),
+    ("session 1, 1 byte", "1", "1", b"b\nc\n"),
+    ("session 2, 1 byte", "2", "1", b"a\nb\nc\n"),
+    ("session 3, 1 byte", "3", "1", b"a\nd\n"),
+    ("session 4, 1 byte", "4", "1", b"c\n"),
+    ("session 0, 16 bytes", "0", "16", b""),
+    ("session 1, 16 bytes", "1", "16", b""),
+    ("session 2, 16 bytes", "2", "16", b""),
+    ("session 3, 16 bytes", "3", "16", b""),
+    ("session 4, 16 bytes", "4", "16", b""),
+];
+
 #[test]
 fn short_tags_meet(rt: HostRuntime) -> Result<(), Fail> {
     let y = numbered_lines(rt.alloc())?;
-    for (session, tag_length, printed) in [
-        ("0", "1", ""),
-        ("1", "1", "b\nc\n"),
-        ("2", "1", "a\nb\nc\n"),
-        ("3", "1", "a\nd\n"),
-        ("4", "1", "c\n"),
-        ("0", "16", ""),
-        ("1", "16", ""),
-        ("2", "16", ""),
-        ("3", "16", ""),
-        ("4", "16", ""),
-    ] {
-        let words = words_of(
-            rt.alloc(),
-            &["local", "x", "y", ZERO_SEED, session, tag_length],
-        )?;
+    for &(name, session, tag_length, printed) in MEETINGS {
+        let texts = ["local", "x", "y", ZERO_SEED, session, tag_length];
         let mut world = world_of(rt.alloc(), Some(b"a\nb\nc\nd\n"), Some(y.as_bytes()))?;
-        let outcome = run(rt.alloc(), &words, &mut world);
-        assert_eq!(rt; outcome.status, Status::Done, "in session {session}");
-        assert_eq!(rt; world.printed(), printed.as_bytes(), "in session {session}");
+        expect_run(&rt, &texts, &mut world, Status::Done, printed, name)?;
     }
     Ok(())
 }

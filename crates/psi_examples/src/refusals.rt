@@ -1,14 +1,32 @@
 // Files and sets that `local` refuses, and the order of its refusals. A refused run prints nothing.
-use crate::runs::{local_words, world_of};
-use psi_base::{FILE_LIMIT, FaultKind};
+use crate::runs::{LOCAL, expect_run, world_of};
+use psi_base::FaultKind;
 use psi_items::BadItems;
-use psi_top::{Status, run};
-use std::alloc::{AllocError, Global};
+use psi_top::Status;
 use std::test::Fail;
 
-const FIVE_ITEMS: &[u8] = b"a\nb\nc\nd\ne\n";
+const ONE_ITEM: Option<&[u8]> = Some(b"a\n");
 
-const RETURN_IN_LINE: &[u8] = b"x\ry";
+const FIVE_ITEMS: Option<&[u8]> = Some(b"a\nb\nc\nd\ne\n");
+
+const RETURN_IN_LINE: Option<&[u8]> = Some(b"x\ry");
+
+/// Line 2 is 300 letters, and line 3 holds a control byte.
+const LONG_LINE: Option<&[u8]> = Some(
+    b"a\n\
+    qqqqqqqqqqqqqqqqqqqqqqqqqqqqqqqqqqqqqqqqqqqqqqqqqqqqqqqqqqqq\
+    qqqqqqqqqqqqqqqqqqqqqqqqqqqqqqqqqqqqqqqqqqqqqqqqqqqqqqqqqqqq\
+    qqqqqqqqqqqqqqqqqqqqqqqqqqqqqqqqqqqqqqqqqqqqqqqqqqqqqqqqqqqq\
+    qqqqqqqqqqqqqqqqqqqqqqqqqqqqqqqqqqqqqqqqqqqqqqqqqqqqqqqqqqqq\
+    qqqqqqqqqqqqqqqqqqqqqqqqqqqqqqqqqqqqqqqqqqqqqqqqqqqqqqqqqqqq\
+    \n\x07\n",
+);
+
+const X_FAULT: Status = Status::FileFault { word: 1 };
+
+const Y_FAULT: Status = Status::FileFault { word: 2 };
+
+const FIVE: Status = Status::LargeSet { count: 5 };
 
 const LONG: BadItems = BadItems::Long {
     line: 2,
@@ -17,135 +35,88 @@ const LONG: BadItems = BadItems::Long {
 
 const BYTE: BadItems = BadItems::Byte { line: 1, found: 13 };
 
-/// A file whose line 2 is 300 letters and whose line 3 holds a control byte.
-fn long_line(alloc: Global) -> Result<Vec<u8>, AllocError> {
-    let mut bytes = b"a\n".to_vec(alloc)?;
-    for _ in 0..300 {
-        bytes.push(b'q')?;
-    }
-    bytes.extend_from_slice(b"\n\x07\n")?;
-    Ok(bytes)
-}
+const LONG_IN_X: Status = Status::BadItems {
+    word: 1,
+    fault: LONG,
+};
+
+const LONG_IN_Y: Status = Status::BadItems {
+    word: 2,
+    fault: LONG,
+};
+
+const BYTE_IN_X: Status = Status::BadItems {
+    word: 1,
+    fault: BYTE,
+};
+
+const BYTE_IN_Y: Status = Status::BadItems {
+    word: 2,
+    fault: BYTE,
+};
+
+/// The name of a row, the files x and y, of which None is missing, and how the run ends.
+const REFUSED: &[(&str, Option<&[u8]>, Option<&[u8]>, Status)] = &[
+    ("five items", FIVE_ITEMS, ONE_ITEM, FIVE),
+    ("no y", ONE_ITEM, None, Y_FAULT),
+    ("no x", None, ONE_ITEM, X_FAULT),
+    ("long line in x", LONG_LINE, ONE_ITEM, LONG_IN_X),
+    ("byte in x", RETURN_IN_LINE, ONE_ITEM, BYTE_IN_X),
+    ("long line in y", ONE_ITEM, LONG_LINE, LONG_IN_Y),
+    ("byte in y", ONE_ITEM, RETURN_IN_LINE, BYTE_IN_Y),
+    ("byte in x, no y", RETURN_IN_LINE, None, BYTE_IN_X),
+    ("five items, no y", FIVE_ITEMS, None, Y_FAULT),
+    (
+        "five items, byte in y",
+        FIVE_ITEMS,
+        RETURN_IN_LINE,
+        BYTE_IN_Y,
+    ),
+];
 
 #[test]
 fn refuses_files_in_order(rt: HostRuntime) -> Result<(), Fail> {
-    let words = local_words(rt.alloc())?;
-    let long = long_line(rt.alloc())?;
-    let rows: [(&str, Option<&[u8]>, Option<&[u8]>, Status); 10] = [
-        (
-            "five items",
-            Some(FIVE_ITEMS),
-            Some(b"a\n"),
-            Status::LargeSet { count: 5 },
-        ),
-        ("no y", Some(b"a\n"), None, Status::FileFault { word: 2 }),
-        ("no x", None, Some(b"a\n"), Status::FileFault { word: 1 }),
-        (
-            "long line of x",
-            Some(&long),
-            Some(b"a\n"),
-            Status::BadItems {
-                word: 1,
-                fault: LONG,
-            },
-        ),
-        (
-            "byte of x",
-            Some(RETURN_IN_LINE),
-            Some(b"a\n"),
-            Status::BadItems {
-                word: 1,
-                fault: BYTE,
-            },
-        ),
-        (
-            "long line of y",
-            Some(b"a\n"),
-            Some(&long),
-            Status::BadItems {
-                word: 2,
-                fault: LONG,
-            },
-        ),
-        (
-            "byte of y",
-            Some(b"a\n"),
-            Some(RETURN_IN_LINE),
-            Status::BadItems {
-                word: 2,
-                fault: BYTE,
-            },
-        ),
-        (
-            "byte of x and no y",
-            Some(RETURN_IN_LINE),
-            None,
-            Status::BadItems {
-                word: 1,
-                fault: BYTE,
-            },
-        ),
-        (
-            "five items and no y",
-            Some(FIVE_ITEMS),
-            None,
-            Status::FileFault { word: 2 },
-        ),
-        (
-            "five items and byte of y",
-            Some(FIVE_ITEMS),
-            Some(RETURN_IN_LINE),
-            Status::BadItems {
-                word: 2,
-                fault: BYTE,
-            },
-        ),
-    ];
-    for (name, x, y, status) in rows {
+    for &(name, x, y, status) in REFUSED {
         let mut world = world_of(rt.alloc(), x, y)?;
-        let outcome = run(rt.alloc(), &words, &mut world);
-        assert_eq!(rt; outcome.status, status, "at {name}");
-        assert!(rt; world.printed().is_empty(), "at {name}");
+        expect_run(&rt, LOCAL, &mut world, status, b"", name)?;
     }
     Ok(())
 }
 
+/// The name of a row, the kind of the call that fails and its place, and how the run ends.
+const FAILED: &[(&str, FaultKind, u64, Status)] = &[
+    ("read of x", FaultKind::File, 0, X_FAULT),
+    ("read of y", FaultKind::File, 1, Y_FAULT),
+    ("print", FaultKind::Print, 0, Status::PrintFault),
+];
+
 #[test]
-fn calls_of_the_outside_fail(rt: HostRuntime) -> Result<(), Fail> {
-    let words = local_words(rt.alloc())?;
-    for (kind, nth, status) in [
-        (FaultKind::File, 0, Status::FileFault { word: 1 }),
-        (FaultKind::File, 1, Status::FileFault { word: 2 }),
-        (FaultKind::Print, 0, Status::PrintFault),
-    ] {
-        let mut world = world_of(rt.alloc(), Some(b"a\nb\nc\n"), Some(b"b\nc\nd\n"))?;
+fn failed_calls_end_the_run(rt: HostRuntime) -> Result<(), Fail> {
+    for &(name, kind, nth, status) in FAILED {
+        let mut world = world_of(rt.alloc(), ONE_ITEM, ONE_ITEM)?;
         world.fail(kind, nth)?;
-        let outcome = run(rt.alloc(), &words, &mut world);
-        assert_eq!(rt; outcome.status, status, "at call {nth}");
-        assert!(rt; world.printed().is_empty(), "at call {nth}");
+        expect_run(&rt, LOCAL, &mut world, status, b"", name)?;
     }
     Ok(())
 }
+
+const TOO_LONG: Status = Status::TooLong {
+    word: 1,
+    taken: 33_554_433,
+};
+
+/// The name of a row, the length of the file x, which is of line feeds alone, and how the run ends.
+const LENGTHS: &[(&str, u32, Status)] = &[
+    ("the longest file", 33_554_432, Status::Done),
+    ("one byte more", 33_554_433, TOO_LONG),
+];
 
 #[test]
 fn reads_files_up_to_the_limit(rt: HostRuntime) -> Result<(), Fail> {
-    let words = local_words(rt.alloc())?;
-    let most = FILE_LIMIT as usize;
-    for (length, status) in [
-        (most, Status::Done),
-        (
-            most + 1,
-            Status::TooLong {
-                word: 1,
-                taken: 33_554_433,
-            },
-        ),
-    ] {
-        let blank = vec![in rt.alloc(); b'\n'; length]?;
-        let mut world = world_of(rt.alloc(), Some(&blank), Some(b"a\n"))?;
-        let outcome = run(rt.alloc(), &words, &mut world);
-        assert_eq!(rt; outcome.status, status, "at {length} bytes");
-        assert!(rt; world.printed().is_empty(), "at {length} bytes");
+    for &(name, length, status) in LENGTHS {
+        let blank = vec![in rt.alloc(); b'\n'; length as usize]?;
+        let mut world = world_of(rt.alloc(), Some(&blank), ONE_ITEM)?;
+        expect_run(&rt, LOCAL, &mut world, status, b"", name)?;
     }
     Ok(())
 }

@@ -1,9 +1,15 @@
-// What the examples share: the words of a command, and a world with two files.
+// What the examples share: the words of a command, a world with two files, and a run with what it
+// has to answer.
 use psi_base::{MemWorld, NoMemory, Words};
+use psi_top::{Status, run};
 use std::alloc::Global;
+use std::process::Abort;
 
 /// The seed of 64 digits 0.
 pub const ZERO_SEED: &str = "0000000000000000000000000000000000000000000000000000000000000000";
+
+/// The words `local x y SEED 0 16` with the seed of zeros.
+pub const LOCAL: &[&str] = &["local", "x", "y", ZERO_SEED, "0", "16"];
 
 /// The words of a command.
 pub fn words_of(alloc: Global, texts: &[&str]) -> Result<Words, NoMemory> {
@@ -12,11 +18,6 @@ pub fn words_of(alloc: Global, texts: &[&str]) -> Result<Words, NoMemory> {
         words.push(text)?;
     }
     Ok(words)
-}
-
-/// The words `local x y SEED 0 16` with the seed of zeros.
-pub fn local_words(alloc: Global) -> Result<Words, NoMemory> {
-    words_of(alloc, &["local", "x", "y", ZERO_SEED, "0", "16"])
 }
 
 /// A world with the files x and y, each of them only where its content is given.
@@ -29,4 +30,20 @@ pub fn world_of(alloc: Global, x: Option<&[u8]>, y: Option<&[u8]>) -> Result<Mem
         world.put_file("y", bytes)?;
     }
     Ok(world)
+}
+
+/// Runs the words over the world, and asserts how the run ends and all that is printed by then.
+pub fn expect_run(
+    rt: &(impl Abort + AllocGlobal),
+    texts: &[&str],
+    world: &mut MemWorld,
+    status: Status,
+    printed: &[u8],
+    name: &str,
+) -> Result<(), NoMemory> {
+    let words = words_of(rt.alloc(), texts)?;
+    let outcome = run(rt.alloc(), &words, world);
+    assert_eq!(rt; outcome.status, status, "at {name}");
+    assert_eq!(rt; world.printed(), printed, "at {name}");
+    Ok(())
 }

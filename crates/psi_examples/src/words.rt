@@ -1,10 +1,8 @@
 // The words of `local`: which are taken, and the place of the first that is not.
-use crate::runs::{ZERO_SEED, local_words, words_of, world_of};
+use crate::runs::{LOCAL, ZERO_SEED as Z, expect_run, world_of};
 use psi_base::FaultKind;
-use psi_top::{Status, run};
+use psi_top::Status;
 use std::test::Fail;
-
-const Z: &str = ZERO_SEED;
 
 const SHORT_SEED: &str = "000000000000000000000000000000000000000000000000000000000000000";
 
@@ -16,74 +14,96 @@ const SEED_OF_CAPITALS: &str = "AAAAAAAAAAAAAAAAAAAAAAAAAAAAAAAAAAAAAAAAAAAAAAAA
 
 const SEED_OF_BOTH_CASES: &str = "abcdefABCDEF0123456789000000000000000000000000000000000000000000";
 
+/// The name of a row, the words of a command, and the place of the first bad one.
+const BAD_WORDS: &[(&str, &[&str], u32)] = &[
+    ("no words", &[], 0),
+    ("empty command", &[""], 0),
+    ("help", &["--help"], 0),
+    ("unknown command", &["locals", "x", "y", Z, "0", "16"], 0),
+    ("no x", &["local"], 1),
+    ("empty x", &["local", "", "y", Z, "0", "16"], 1),
+    ("no y", &["local", "x"], 2),
+    ("empty y", &["local", "x", "", Z, "0", "16"], 2),
+    ("no seed", &["local", "x", "y"], 3),
+    ("63 digits", &["local", "x", "y", SHORT_SEED, "0", "16"], 3),
+    ("65 digits", &["local", "x", "y", LONG_SEED, "0", "16"], 3),
+    ("no digit", &["local", "x", "y", SEED_WITH_G, "0", "16"], 3),
+    ("empty seed", &["local", "x", "y", "", "", ""], 3),
+    ("no session", &["local", "x", "y", Z], 4),
+    (
+        "session 2^64",
+        &["local", "x", "y", Z, "18446744073709551616", "16"],
+        4,
+    ),
+    (
+        "21 digits",
+        &["local", "x", "y", Z, "000000000000000000000", "16"],
+        4,
+    ),
+    ("empty session", &["local", "x", "y", Z, "", "16"], 4),
+    ("session with plus", &["local", "x", "y", Z, "+1", "16"], 4),
+    ("two bad words", &["local", "x", "y", Z, "-1", "0"], 4),
+    ("no tag length", &["local", "x", "y", Z, "0"], 5),
+    ("tag length 0", &["local", "x", "y", Z, "0", "0"], 5),
+    ("tag length 17", &["local", "x", "y", Z, "0", "17"], 5),
+    ("three digits", &["local", "x", "y", Z, "0", "016"], 5),
+    ("empty tag length", &["local", "x", "y", Z, "0", ""], 5),
+    (
+        "tag length with plus",
+        &["local", "x", "y", Z, "0", "+1"],
+        5,
+    ),
+    (
+        "bad and too many",
+        &["local", "x", "y", Z, "0", "17", "r"],
+        5,
+    ),
+    ("seven words", &["local", "x", "y", Z, "0", "16", "r"], 6),
+    (
+        "eight words",
+        &["local", "x", "y", Z, "0", "16", "r", "s"],
+        6,
+    ),
+];
+
 #[test]
 fn bad_words_have_their_places(rt: HostRuntime) -> Result<(), Fail> {
-    let rows: [(&[&str], u32); 26] = [
-        (&[], 0),
-        (&[""], 0),
-        (&["--help"], 0),
-        (&["locals", "x", "y", Z, "0", "16"], 0),
-        (&["local"], 1),
-        (&["local", "", "y", Z, "0", "16"], 1),
-        (&["local", "x"], 2),
-        (&["local", "x", "", Z, "0", "16"], 2),
-        (&["local", "x", "y"], 3),
-        (&["local", "x", "y", SHORT_SEED, "0", "16"], 3),
-        (&["local", "x", "y", LONG_SEED, "0", "16"], 3),
-        (&["local", "x", "y", SEED_WITH_G, "0", "16"], 3),
-        (&["local", "x", "y", "", "", ""], 3),
-        (&["local", "x", "y", Z], 4),
-        (&["local", "x", "y", Z, "18446744073709551616", "16"], 4),
-        (&["local", "x", "y", Z, "000000000000000000000", "16"], 4),
-        (&["local", "x", "y", Z, "", "16"], 4),
-        (&["local", "x", "y", Z, "+1", "16"], 4),
-        (&["local", "x", "y", Z, "-1", "0"], 4),
-        (&["local", "x", "y", Z, "0"], 5),
-        (&["local", "x", "y", Z, "0", "0"], 5),
-        (&["local", "x", "y", Z, "0", "17"], 5),
-        (&["local", "x", "y", Z, "0", "016"], 5),
-        (&["local", "x", "y", Z, "0", ""], 5),
-        (&["local", "x", "y", Z, "0", "+1", "r"], 5),
-        (&["local", "x", "y", Z, "0", "16", "r"], 6),
-    ];
     let mut world = world_of(rt.alloc(), Some(b"b\n"), Some(b"b\n"))?;
     world.fail(FaultKind::File, 0)?;
-    for (row, (texts, at)) in rows.iter().enumerate() {
-        let words = words_of(rt.alloc(), texts)?;
-        let outcome = run(rt.alloc(), &words, &mut world);
-        assert_eq!(rt; outcome.status, Status::BadWords { at: *at }, "at {row}");
-        assert!(rt; world.printed().is_empty(), "at {row}");
+    for &(name, texts, at) in BAD_WORDS {
+        expect_run(&rt, texts, &mut world, Status::BadWords { at }, b"", name)?;
     }
 
     // No run above read a file: the first read, which fails, is still to come.
-    let words = local_words(rt.alloc())?;
-    for status in [Status::FileFault { word: 1 }, Status::Done] {
-        assert_eq!(rt; run(rt.alloc(), &words, &mut world).status, status);
-    }
-    assert_eq!(rt; world.printed(), b"b\n".as_slice());
+    expect_run(
+        &rt,
+        LOCAL,
+        &mut world,
+        Status::FileFault { word: 1 },
+        b"",
+        "first read",
+    )?;
+    expect_run(&rt, LOCAL, &mut world, Status::Done, b"b\n", "later reads")?;
     Ok(())
 }
 
+/// The name of a row, the seed, the session and the tag length.
+const GOOD_WORDS: &[(&str, &str, &str, &str)] = &[
+    ("capitals", SEED_OF_CAPITALS, "0", "16"),
+    ("both cases", SEED_OF_BOTH_CASES, "0", "16"),
+    ("session 2^64 - 1", Z, "18446744073709551615", "16"),
+    ("20 digits", Z, "00000000000000000000", "16"),
+    ("leading zeros", Z, "00000000000000000016", "1"),
+    ("tag length 01", Z, "7", "01"),
+    ("tag length 9", Z, "7", "9"),
+];
+
 #[test]
-fn words_are_taken(rt: HostRuntime) -> Result<(), Fail> {
-    for (seed, session, tag_length) in [
-        (SEED_OF_CAPITALS, "0", "16"),
-        (SEED_OF_BOTH_CASES, "0", "16"),
-        (Z, "18446744073709551615", "16"),
-        (Z, "00000000000000000000", "16"),
-        (Z, "00000000000000000016", "1"),
-        (Z, "7", "01"),
-        (Z, "7", "9"),
-    ] {
-        let words = words_of(rt.alloc(), &["local", "x", "y", seed, session, tag_length])?;
+fn good_words_are_taken(rt: HostRuntime) -> Result<(), Fail> {
+    for &(name, seed, session, tag_length) in GOOD_WORDS {
+        let texts = ["local", "x", "y", seed, session, tag_length];
         let mut world = world_of(rt.alloc(), Some(b"b\nc\n"), Some(b"c\nd\nb\n"))?;
-        let outcome = run(rt.alloc(), &words, &mut world);
-        assert_eq!(rt; outcome.status, Status::Done, "at {session} {tag_length}");
-        assert_eq!(rt;
-            world.printed(),
-            b"b\nc\n".as_slice(),
-            "at {session} {tag_length}"
-        );
+        expect_run(&rt, &texts, &mut world, Status::Done, b"b\nc\n", name)?;
     }
     Ok(())
 }
