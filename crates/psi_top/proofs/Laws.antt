@@ -17,8 +17,8 @@ use Rattle.psi_base.specs.Outside.{Outside, Files}
 use Rattle.psi_items.specs.Reading.{bad_items_of}
 use Rattle.psi_top.specs.Form.{command_of}
 use Rattle.psi_top.specs.Local.{local_setup, local_text, most_local}
-use Rattle.psi_top.specs.Answers.{Answers, AnswersBy, Contents, Due, lacks, long, refused, prints, Follows, FollowsTold, HasCause, due_of, judged, local_due, local_rest, text_of, told}
-use Rattle.psi_top.specs.Promises.{HasBoth, HasItems, IsBadWords, IsCaused, IsDue, IsSized, KeepsRest, LocalIsSized, LocalPrintsShown, OnDue, PrintsFront}
+use Rattle.psi_top.specs.Answers.{Answers, AnswersBy, Contents, Due, HasItems, lacks, long, refused, prints, Follows, FollowsTold, HasCause, due_of, judged, local_due, local_rest, text_of, told}
+use Rattle.psi_top.specs.Promises.{HasBoth, IsBadWords, IsCaused, IsDue, IsSized, KeepsRest, LocalIsSized, LocalPrintsShown, OnDue, PrintsFront}
 use Rattle.psi_top.specs.declared.form.Command.{Command}
 use Rattle.psi_top.specs.declared.form.Command.TheVariants.{Local}
 use Rattle.psi_top.specs.declared.status.Status.{Status}
@@ -53,11 +53,11 @@ follows_told words before status after answers files command is fit named =
     let h : HasCause before status after × FollowsTold (due_of command words) words before status after = rw (fit, named) at answers in
     h.1 files is
 
-is_due : (due : Contents → Due) (contents : Contents) (before : Outside) (status : Status) (after : Outside) → Follows due contents before status after → IsDue status (due contents)
+is_due : (due : Contents → Due) (contents : Contents) (before : Outside) (status : Status) (after : Outside) → Follows due contents before status after → IsDue status due contents
 is_due due contents before Done after h = (h.0, h.1)
 is_due due contents before (BadWords at) after h = absurd h
 is_due due contents before (BadItems word fault) after h = h.0
-is_due due contents before (FileFault word) after h = tt
+is_due due contents before (FileFault word) after h = h.0
 is_due due contents before PrintFault after h = (h.0, h.2)
 is_due due contents before (TooLong word taken) after h = h.0
 is_due due contents before (LargeSet count) after h = h.0
@@ -67,29 +67,29 @@ nothing_printed : (p : Option (List ℕ)) → option_map (λ (p : List ℕ). p +
 nothing_printed None = refl
 nothing_printed (Some p) = ap (λ (x : List ℕ). Some x) (append-nil p)
 
-prints_nothing : (before after : Outside) (status : Status) (due : Due) → after.printed ≡ before.printed → (status ≡ Done → ⊥) → PrintsFront before after status due
-prints_nothing before after status due e not_done = record {
+prints_nothing : (before after : Outside) (status : Status) (due : Contents → Due) (contents : Contents) → after.printed ≡ before.printed → (status ≡ Done → ⊥) → PrintsFront before after status due contents
+prints_nothing before after status due contents e not_done = record {
   count = 0;
   printed = e ∙ sym (nothing_printed before.printed);
   whole = λ d. absurd (not_done d);
 }
 
-prints_front : (due : Contents → Due) (contents : Contents) (before : Outside) (status : Status) (after : Outside) → Follows due contents before status after → PrintsFront before after status (due contents)
+prints_front : (due : Contents → Due) (contents : Contents) (before : Outside) (status : Status) (after : Outside) → Follows due contents before status after → PrintsFront before after status due contents
 prints_front due contents before Done after h = record {
   count = length h.0;
   printed = ap (λ (o : Outside). o.printed) h.2 ∙ ap (λ (t : List ℕ). option_map (λ (p : List ℕ). p ++ t) before.printed) (sym (ap (λ (d : Due). take (length h.0) (text_of d)) h.1 ∙ take_all (length h.0) h.0 (omega arith)));
   whole = λ d. let e : length (text_of (due contents)) ≡ length h.0 = ap (λ (d : Due). length (text_of d)) h.1 in omega arith;
 }
 prints_front due contents before (BadWords at) after h = absurd h
-prints_front due contents before (BadItems word fault) after h = prints_nothing before after (BadItems word fault) (due contents) (ap (λ (o : Outside). o.printed) h.1) (λ e. cc e)
-prints_front due contents before (FileFault word) after h = prints_nothing before after (FileFault word) (due contents) (ap (λ (o : Outside). o.printed) h.1.left) (λ e. cc e)
+prints_front due contents before (BadItems word fault) after h = prints_nothing before after (BadItems word fault) due contents (ap (λ (o : Outside). o.printed) h.1) (λ e. cc e)
+prints_front due contents before (FileFault word) after h = prints_nothing before after (FileFault word) due contents (ap (λ (o : Outside). o.printed) h.1.left) (λ e. cc e)
 prints_front due contents before PrintFault after h = record {
   count = h.1;
   printed = ap (λ (o : Outside). o.printed) h.4.left ∙ ap (λ (d : Due). option_map (λ (p : List ℕ). p ++ take h.1 (text_of d)) before.printed) (sym h.2);
   whole = λ e. absurd (cc e);
 }
-prints_front due contents before (TooLong word taken) after h = prints_nothing before after (TooLong word taken) (due contents) (ap (λ (o : Outside). o.printed) h.2) (λ e. cc e)
-prints_front due contents before (LargeSet count) after h = prints_nothing before after (LargeSet count) (due contents) (ap (λ (o : Outside). o.printed) h.1) (λ e. cc e)
+prints_front due contents before (TooLong word taken) after h = prints_nothing before after (TooLong word taken) due contents (ap (λ (o : Outside). o.printed) h.2) (λ e. cc e)
+prints_front due contents before (LargeSet count) after h = prints_nothing before after (LargeSet count) due contents (ap (λ (o : Outside). o.printed) h.1) (λ e. cc e)
 prints_front due contents before NoMemory after h = record {
   count = h.count;
   printed = ap (λ (o : Outside). o.printed) h.left;
@@ -193,8 +193,8 @@ judged_rest word (Some bytes) next due later e = by_length (nat_lt file_limit (l
 record AreRead (words : List (List ℕ)) (files : Files) (due : Due) : Type 0 where
   xs : List (List ℕ)
   ys : List (List ℕ)
-  x_file : HasItems words files 1 xs
-  y_file : HasItems words files 2 ys
+  x_file : HasItems (Some files) words 1 xs
+  y_file : HasItems (Some files) words 2 ys
   rest : local_rest words xs ys ≡ due
 
 local_reads : (words : List (List ℕ)) (files : Files) (due : Due) → FromRest due → local_due words (told files words) ≡ due → AreRead words files due

@@ -1,5 +1,5 @@
 -- What a run may answer, and what then stands.
-use Rattle.std.specs.Prelude.{◌≡◌, ◌<◌, ◌≤◌, ◌==◌, ℕ, List, [], length, take, Option, Some, None, Result, Ok, Err, nat_lt, if◌then◌else◌}
+use Rattle.std.specs.Prelude.{◌≡◌, ◌<◌, ◌≤◌, ◌==◌, ℕ, List, [], length, take, Option, Some, None, option_map, Result, Ok, Err, nat_lt, if◌then◌else◌}
 use Rattle.std.specs.Option.{option_map_or}
 use Rattle.psi_spec.specs.Limits.{file_limit}
 use Rattle.psi_spec.specs.Items.{items_of, first_bad}
@@ -105,24 +105,24 @@ AnswersBy words before status after None (Some command) = HasCause before status
 abbrev pub Answers : List (List ℕ) → Outside → Status → Outside → Type 0
 Answers words before status after = AnswersBy words before status after (bad_word words) (command_of words)
 
--- the item file of a word was read and has no fault
-pub record IsGood (files : Option Files) (words : List (List ℕ)) (word : ℕ) (items : List (List ℕ)) : Type 0 where
+-- the item file of a word is short enough and has no line with a fault, and these are its items
+pub record HasItems (files : Option Files) (words : List (List ℕ)) (word : ℕ) (items : List (List ℕ)) : Type 0 where
   pub bytes : List ℕ
-  pub has : HasFile files (word_at words word) bytes
+  pub file : HasFile files (word_at words word) bytes
   pub short : length bytes ≤ file_limit
   pub good : first_bad bytes ≡ None
   pub read : items ≡ items_of bytes
 
--- the item file of a word was read and has this fault
+-- the item file of a word is short enough and has a line with a fault, which this status names
 pub record IsBad (files : Option Files) (words : List (List ℕ)) (word : ℕ) (fault : Status) : Type 0 where
   pub bytes : List ℕ
-  pub has : HasFile files (word_at words word) bytes
+  pub file : HasFile files (word_at words word) bytes
   pub short : length bytes ≤ file_limit
-  pub bad : option_map_or (λ bad. Some (BadItems word (bad_items_of bad))) (first_bad bytes) None ≡ Some fault
+  pub bad : option_map (λ bad. BadItems word (bad_items_of bad)) (first_bad bytes) ≡ Some fault
 
 -- what a step that reads the item file of a word may answer and leave
 abbrev pub Judges : List (List ℕ) → ℕ → Outside → Result (List (List ℕ)) Status → Outside → Type 0
-Judges words word before (Ok items) after = IsGood before.files words word items × (after ≡ before)
+Judges words word before (Ok items) after = HasItems before.files words word items × (after ≡ before)
 Judges words word before (Err (BadItems place fault)) after = (place ≡ word) × IsBad before.files words word (BadItems word fault) × (after ≡ before)
 Judges words word before (Err (FileFault place)) after = (place ≡ word) × FileFailed before after
 Judges words word before (Err (TooLong place taken)) after = (place ≡ word) × (file_limit < taken) × IsLonger before.files (word_at words word) file_limit × (after ≡ before)

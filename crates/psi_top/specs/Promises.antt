@@ -1,14 +1,13 @@
 -- What callers read from `Answers`.
 use Rattle.std.specs.Prelude.{◌≡◌, ◌<◌, ◌≤◌, ◌++◌, ℕ, List, Contains, length, map, take, Option, Some, None, option_map}
-use Rattle.psi_spec.specs.Items.{first_bad, items_of}
 use Rattle.psi_spec.specs.Limits.{file_limit}
 use Rattle.psi_spec.specs.Meeting.{Placed, SharesTag, shown, shown_placed}
 use Rattle.psi_spec.specs.Texts.{lines_text}
-use Rattle.psi_spec.specs.Words.{bad_word, word_at}
+use Rattle.psi_spec.specs.Words.{bad_word}
 use Rattle.psi_base.specs.Outside.{Outside, Files, Rose}
 use Rattle.psi_top.specs.Form.{command_of}
 use Rattle.psi_top.specs.Local.{local_setup, most_local}
-use Rattle.psi_top.specs.Answers.{Due, due_of, long, refused, prints, text_of, told}
+use Rattle.psi_top.specs.Answers.{Contents, Due, HasItems, due_of, lacks, long, refused, prints, text_of, told, without}
 use Rattle.psi_top.specs.declared.form.Command.{Command}
 use Rattle.psi_top.specs.declared.form.Command.TheVariants.{Local}
 use Rattle.psi_top.specs.declared.status.Status.{Status}
@@ -25,26 +24,26 @@ IsBadWords (TooLong word taken) bad = bad ≡ None
 IsBadWords (LargeSet count) bad = bad ≡ None
 IsBadWords NoMemory bad = bad ≡ None
 
--- a fact on what the command of the words is due, where the files are told
-abbrev pub OnDue : List (List ℕ) → Outside → (Due → Type 0) → Type 0
-OnDue words before P = (files : Files) (command : Command) → before.files ≡ Some files → bad_word words ≡ None → command_of words ≡ Some command → P (due_of command words (told files words))
+-- a fact on what the command of the words is due at the contents of its files, where the files are told
+abbrev pub OnDue : List (List ℕ) → Outside → ((Contents → Due) → Contents → Type 0) → Type 0
+OnDue words before P = (files : Files) (command : Command) → before.files ≡ Some files → bad_word words ≡ None → command_of words ≡ Some command → P (due_of command words) (told files words)
 
--- each refusal comes exactly where it is due, unless a file, a print or memory failed
-abbrev pub IsDue : Status → Due → Type 0
-IsDue Done due = (text : List ℕ) × (due ≡ prints text)
-IsDue (BadWords at) due = ⊥
-IsDue (BadItems word fault) due = due ≡ refused (BadItems word fault)
-IsDue (FileFault word) due = Unit {0}
-IsDue PrintFault due = (text : List ℕ) × (due ≡ prints text)
-IsDue (TooLong word taken) due = due ≡ long word
-IsDue (LargeSet count) due = due ≡ refused (LargeSet count)
-IsDue NoMemory due = Unit {0}
+-- each refusal comes only where it is due: that of a file that was not read, where it would be due if the file were missing
+abbrev pub IsDue : Status → (Contents → Due) → Contents → Type 0
+IsDue Done due contents = (text : List ℕ) × (due contents ≡ prints text)
+IsDue (BadWords at) due contents = ⊥
+IsDue (BadItems word fault) due contents = due contents ≡ refused (BadItems word fault)
+IsDue (FileFault word) due contents = due (without word contents) ≡ lacks word
+IsDue PrintFault due contents = (text : List ℕ) × (due contents ≡ prints text)
+IsDue (TooLong word taken) due contents = due contents ≡ long word
+IsDue (LargeSet count) due contents = due contents ≡ refused (LargeSet count)
+IsDue NoMemory due contents = Unit {0}
 
 -- a front of the text that is due was printed, the whole of it where the run is done
-pub record PrintsFront (before after : Outside) (status : Status) (due : Due) : Type 0 where
+pub record PrintsFront (before after : Outside) (status : Status) (due : Contents → Due) (contents : Contents) : Type 0 where
   pub count : ℕ
-  pub printed : after.printed ≡ option_map (λ p. p ++ take count (text_of due)) before.printed
-  pub whole : status ≡ Done → length (text_of due) ≤ count
+  pub printed : after.printed ≡ option_map (λ p. p ++ take count (text_of (due contents))) before.printed
+  pub whole : status ≡ Done → length (text_of (due contents)) ≤ count
 
 -- no file changes, and no count falls
 pub record KeepsRest (before after : Outside) : Type 0 where
@@ -64,20 +63,12 @@ IsCaused before (TooLong word taken) after = file_limit < taken
 IsCaused before (LargeSet count) after = most_local < count
 IsCaused before NoMemory after = Unit {0}
 
--- the file of a word is there, is short enough and has no line with a fault, and these are its items
-pub record HasItems (words : List (List ℕ)) (files : Files) (word : ℕ) (items : List (List ℕ)) : Type 0 where
-  pub bytes : List ℕ
-  pub file : files (word_at words word) ≡ Some bytes
-  pub short : length bytes ≤ file_limit
-  pub good : first_bad bytes ≡ None
-  pub read : items ≡ items_of bytes
-
 -- both files of `local` have items, and a fact holds of the receiver's
 pub record HasBoth (words : List (List ℕ)) (files : Files) (P : List (List ℕ) → Type 0) : Type 0 where
   pub xs : List (List ℕ)
   pub ys : List (List ℕ)
-  pub x_file : HasItems words files 1 xs
-  pub y_file : HasItems words files 2 ys
+  pub x_file : HasItems (Some files) words 1 xs
+  pub y_file : HasItems (Some files) words 2 ys
   pub fact : P xs
 
 -- the size of the receiver's set is judged once both files have items
@@ -99,8 +90,8 @@ LocalIsSized words before status = (files : Files) → before.files ≡ Some fil
 pub record PrintedShown (words : List (List ℕ)) (files : Files) (before after : List ℕ) : Type 0 where
   pub xs : List (List ℕ)
   pub ys : List (List ℕ)
-  pub x_file : HasItems words files 1 xs
-  pub y_file : HasItems words files 2 ys
+  pub x_file : HasItems (Some files) words 1 xs
+  pub y_file : HasItems (Some files) words 2 ys
   pub few : length xs ≤ most_local
   pub printed : after ≡ before ++ lines_text (shown (local_setup words xs) ys)
   pub placed : map (λ p. p.item) (local_setup words xs).placed ≡ xs

@@ -37,7 +37,8 @@ pub fn run<W: World>(alloc: Global, words: &Words, world: &mut W) -> Outcome
     // A fault of a file or of printing comes only where its count rose, and a file is too long only past the limit.
     ensures cause { IsCaused (W.outside world.old) result.status (W.outside world.new) }
 
-    // Where the files are told, each refusal of a file or a set comes only where it is due, in order.
+    // Where the files are told, each refusal of a file or a set comes only where it is due, in order: that of a file that
+    // was not read, where it would be due if the file were missing.
     ensures exact { OnDue words.now (W.outside world.old) (IsDue result.status) }
 
     // A set is large where both files have items and the receiver's are more than four, and else it never is.
