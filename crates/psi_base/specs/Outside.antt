@@ -1,7 +1,8 @@
 -- What a program sees of the outside: contents that may be told or not, and counts of what went wrong.
-use Rattle.std.specs.Prelude.{◌≡◌, ◌+◌, ◌-◌, ◌<◌, ◌≤◌, ◌^◌, ◌++◌, ℕ, List, Vec, min, length, take, Option, Some, None, Result, Ok, Err, option_map, if◌then◌else◌}
+use Rattle.std.specs.Prelude.{◌≡◌, ◌+◌, ◌-◌, ◌<◌, ◌≤◌, ◌^◌, ◌++◌, ℕ, Bool, true, false, List, [], Vec, min, length, take, drop, Option, Some, None, Result, Ok, Err, IfSome, IsTrue, option_map, if◌then◌else◌}
 use Rattle.std.specs.Str.{bytes_eq}
 use Rattle.std.specs.declared.alloc.Global.{Global}
+use Rattle.psi_base.specs.declared.faults.Failed.{Failed}
 use Rattle.psi_base.specs.declared.faults.Fault.{Fault}
 use Rattle.psi_base.specs.declared.faults.Fault.TheVariants as fault
 use Rattle.psi_base.specs.declared.faults.ReadFault.{ReadFault}
@@ -19,51 +20,97 @@ with_file files name bytes = λ other. if bytes_eq name other then Some bytes el
 pub record Outside : Type 0 where
   pub files : Option Files
   pub printed : Option (List ℕ)
+  pub incoming : Option (List ℕ)  -- the bytes of the link that are still to come
+  pub outgoing : Option (List ℕ)  -- the bytes that were sent over the link
   pub file_faults : ℕ
+  pub link_faults : ℕ
   pub print_faults : ℕ
-  pub refusals : ℕ
+  pub ends : ℕ  -- how often a receive found that nothing more comes
+  pub refusals : ℕ  -- how often memory was wanting
+  pub ready : Bool  -- whether the link is open
+  pub steady : Bool  -- whether it never fails but for a file that is missing
 
 -- the file of this name has just these bytes, where the files are told
 abbrev pub HasFile : Option Files → List ℕ → List ℕ → Type 0
-HasFile None name bytes = Unit {0}
-HasFile (Some files) name bytes = files name ≡ Some bytes
+HasFile files name bytes = IfSome files (λ told. told name ≡ Some bytes)
 
--- the file of this name is longer than max, where the files are told
-abbrev pub IsLonger : Option Files → List ℕ → ℕ → Type 0
-IsLonger None name max = Unit {0}
-IsLonger (Some files) name max = (bytes : List ℕ) × (files name ≡ Some bytes) × (max < length bytes)
+-- the file of this name has at least so many bytes, where the files are told
+abbrev pub HasAtLeast : Option Files → List ℕ → ℕ → Type 0
+HasAtLeast files name count =
+    IfSome files (λ told. (bytes : List ℕ) × (told name ≡ Some bytes) × (count ≤ length bytes))
+
+-- there is no file of this name, where the files are told
+abbrev pub LacksFile : Option Files → List ℕ → Type 0
+LacksFile files name = IfSome files (λ told. told name ≡ None)
 
 -- a count is greater than before, or stands at the greatest u64
 pub record Rose (before now : ℕ) : Type 0 where
   pub no_lower : before ≤ now
   pub more : min (before + 1) (2 ^ 64 - 1) ≤ now
 
--- a file was not read: that was counted, and nothing else changed
-pub record FileFailed (old new : Outside) : Type 0 where
+-- a file was not read: that was counted, and nothing else changed; a steady outside only lacks the file
+pub record FileFailed (old : Outside) (name : List ℕ) (new : Outside) : Type 0 where
   pub rose : Rose old.file_faults new.file_faults
+  pub missing : IsTrue old.steady → LacksFile old.files name
   pub left : new ≡ record old { file_faults = new.file_faults }
 
--- a print failed: that was counted, and nothing else changed
+-- a print failed: that was counted, and nothing else changed; it never happens in a steady outside
 pub record PrintFailed (old new : Outside) : Type 0 where
   pub rose : Rose old.print_faults new.print_faults
+  pub unsteady : old.steady ≡ false
   pub left : new ≡ record old { print_faults = new.print_faults }
 
--- memory for a print was refused: that was counted, and nothing else changed
-pub record Refused (old new : Outside) : Type 0 where
+-- a call of the link failed: that was counted, and nothing else changed; it never happens in a steady outside
+pub record LinkFailed (old new : Outside) : Type 0 where
+  pub rose : Rose old.link_faults new.link_faults
+  pub unsteady : old.steady ≡ false
+  pub left : new ≡ record old { link_faults = new.link_faults }
+
+-- memory for a call was refused: that was counted, and nothing else changed
+pub record Starved (old new : Outside) : Type 0 where
   pub rose : Rose old.refusals new.refusals
   pub left : new ≡ record old { refusals = new.refusals }
 
 -- a result with its vector seen as a list
-abbrev pub items_of : {E : Type 0} → Result (Vec ℕ Global) E → Result (List ℕ) E
-items_of (Ok bytes) = Ok bytes.items
-items_of (Err error) = Err error
+abbrev pub as_list : {E : Type 0} → Result (Vec ℕ Global) E → Result (List ℕ) E
+as_list (Ok bytes) = Ok bytes.items
+as_list (Err error) = Err error
 
 -- what a read of at most max bytes of a file may answer and leave
 abbrev pub Reads : Outside → List ℕ → ℕ → Result (List ℕ) ReadFault → Outside → Type 0
 Reads old name max (Ok bytes) new = (length bytes ≤ max) × HasFile old.files name bytes × (new ≡ old)
-Reads old name max (Err read.Failed) new = FileFailed old new
-Reads old name max (Err (read.TooLong taken)) new = (max < taken) × IsLonger old.files name max × (new ≡ old)
+Reads old name max (Err read.Failed) new = FileFailed old name new
+Reads old name max (Err (read.TooLong taken)) new = (max < taken) × HasAtLeast old.files name taken × (new ≡ old)
 Reads old name max (Err read.NoMemory) new = new ≡ old
+
+-- the outside after a file was written
+abbrev pub written : Outside → List ℕ → List ℕ → Outside
+written old name bytes = record old { files = option_map (λ files. with_file files name bytes) old.files }
+
+-- the outside after so many bytes of a file were written, or before the file was begun
+abbrev pub partly_written : Outside → List ℕ → List ℕ → Option ℕ → Outside
+partly_written old name bytes None = old
+partly_written old name bytes (Some count) = written old name (take count bytes)
+
+-- a write failed: that was counted, and the file is as before or has a front of the bytes; it never happens in a steady
+-- outside
+pub record WriteFailed (old : Outside) (name bytes : List ℕ) (new : Outside) : Type 0 where
+  pub part : Option ℕ
+  pub rose : Rose old.file_faults new.file_faults
+  pub unsteady : old.steady ≡ false
+  pub left : new ≡ partly_written (record old { file_faults = new.file_faults }) name bytes part
+
+-- memory for a write was refused: that was counted, and the file is as before or has a front of the bytes
+pub record WriteStarved (old : Outside) (name bytes : List ℕ) (new : Outside) : Type 0 where
+  pub part : Option ℕ
+  pub rose : Rose old.refusals new.refusals
+  pub left : new ≡ partly_written (record old { refusals = new.refusals }) name bytes part
+
+-- what a write of a file may answer and leave
+abbrev pub Writes : Outside → List ℕ → List ℕ → Result (Unit {0}) Fault → Outside → Type 0
+Writes old name bytes (Ok _) new = new ≡ written old name bytes
+Writes old name bytes (Err fault.Failed) new = WriteFailed old name bytes new
+Writes old name bytes (Err fault.NoMemory) new = WriteStarved old name bytes new
 
 -- the outside after these bytes were printed too
 abbrev pub printed_too : Outside → List ℕ → Outside
@@ -73,10 +120,42 @@ printed_too old bytes = record old { printed = option_map (λ before. before ++ 
 abbrev pub Prints : Outside → List ℕ → Result ℕ Fault → Outside → Type 0
 Prints old bytes (Ok k) new = (0 < k) × (k ≤ length bytes) × (new ≡ printed_too old (take k bytes))
 Prints old bytes (Err fault.Failed) new = PrintFailed old new
-Prints old bytes (Err fault.NoMemory) new = Refused old new
+Prints old bytes (Err fault.NoMemory) new = Starved old new
 
 -- all the bytes were printed, or a front of them that ends before the last, and then a print was refused
 abbrev pub PrintsAll : Outside → List ℕ → Result (Unit {0}) Fault → Outside → Type 0
 PrintsAll old bytes (Ok _) new = new ≡ printed_too old bytes
-PrintsAll old bytes (Err fault.Failed) new = (k : ℕ) × (k < length bytes) × PrintFailed (printed_too old (take k bytes)) new
-PrintsAll old bytes (Err fault.NoMemory) new = (k : ℕ) × (k < length bytes) × Refused (printed_too old (take k bytes)) new
+PrintsAll old bytes (Err fault.Failed) new =
+    (k : ℕ) × (k < length bytes) × PrintFailed (printed_too old (take k bytes)) new
+PrintsAll old bytes (Err fault.NoMemory) new =
+    (k : ℕ) × (k < length bytes) × Starved (printed_too old (take k bytes)) new
+
+-- what an opening of the link may answer and leave
+abbrev pub Opens : Outside → Result (Unit {0}) Fault → Outside → Type 0
+Opens old (Ok _) new = new ≡ record old { ready = true }
+Opens old (Err fault.Failed) new = LinkFailed old new
+Opens old (Err fault.NoMemory) new = Starved old new
+
+-- so many bytes came, which are the front of the buffer; none come only where that was counted as an end, and nothing
+-- is left where that is told
+pub record Received (old : Outside) (count : ℕ) (buffer : List ℕ) (new : Outside) : Type 0 where
+  pub within : count ≤ length buffer
+  pub next : IfSome old.incoming (λ bytes. take count buffer ≡ take count bytes)
+  pub some : 0 < count → new.ends ≡ old.ends
+  pub ended : count ≡ 0 → Rose old.ends new.ends × IfSome old.incoming (λ bytes. bytes ≡ [])
+  pub left : new ≡ record old { incoming = option_map (λ bytes. drop count bytes) old.incoming; ends = new.ends }
+
+-- what a receive may answer and leave, in the buffer too
+abbrev pub Receives : Outside → Result ℕ Failed → List ℕ → Outside → Type 0
+Receives old (Ok count) buffer new = Received old count buffer new
+Receives old (Err _) buffer new = LinkFailed old new
+
+-- the outside after these bytes were sent too
+abbrev pub sent_too : Outside → List ℕ → Outside
+sent_too old bytes = record old { outgoing = option_map (λ before. before ++ bytes) old.outgoing }
+
+-- what a send of these bytes may answer and leave
+abbrev pub Sends : Outside → List ℕ → Result ℕ Fault → Outside → Type 0
+Sends old bytes (Ok k) new = (0 < k) × (k ≤ length bytes) × (new ≡ sent_too old (take k bytes))
+Sends old bytes (Err fault.Failed) new = LinkFailed old new
+Sends old bytes (Err fault.NoMemory) new = Starved old new

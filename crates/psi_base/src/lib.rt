@@ -1,18 +1,28 @@
-//! What the crates above stand on: the limits, the words of a command, the outside as a trait, and a
-//! world in memory.
+//! What the crates above stand on: the limits, the words of a command, lists of places, the outside as a
+//! trait, and worlds in memory.
 #![tactic(auto)]
 
 mod faults;
+mod folder;
+mod incoming;
 mod limits;
 mod memory;
+mod places;
+mod quiet;
+mod schedule;
 mod words;
 mod world;
 
 pub use faults::{Failed, Fault, FaultKind, NoMemory, ReadFault};
-pub use limits::{FILE_LIMIT, LIMIT_ITEMS, LINE_LIMIT, STASH, bins, rows};
+pub use limits::{
+    FILE_LIMIT, INBOX_ROOM, LIMIT_ITEMS, LINE_LIMIT, RECORD_LIMIT, ROW_LIMIT, STASH_LIMIT,
+    USUAL_STASH, bins, rows,
+};
 pub use memory::MemWorld;
+pub use places::{Pairs, Places};
+pub use quiet::QuietMem;
 pub use words::Words;
-pub use world::{World, print_all};
+pub use world::{Side, World, print_all};
 
 #[cfg(test)]
 mod tests;

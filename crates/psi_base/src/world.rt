@@ -1,22 +1,42 @@
 // The outside as a trait with one ghost record, and a loop over its prints.
-ghost use Rattle.std.specs.Prelude.{◌<◌, length};
-ghost use Rattle.psi_base.specs.Outside.{Outside, Prints, PrintsAll, Reads, items_of};
+ghost use Rattle.std.specs.Prelude.{◌<◌, length, IsSome, IsTrue};
+ghost use Rattle.psi_base.specs.Outside.{Outside, Opens, Prints, PrintsAll, Reads, Receives, Sends, Writes, as_list};
 
-use crate::{Fault, ReadFault};
+use crate::{Failed, Fault, ReadFault};
 use std::alloc::Global;
 
-/// The outside of a run: its files, and the text that it prints.
+/// Who begins the connection of a link.
+#[derive(Clone, Copy, Debug, PartialEq, Eq)]
+pub enum Side {
+    /// This end connects to the address.
+    Connect,
+    /// This end waits at the address for one connection.
+    Listen,
+}
+
+/// The outside of a run: its files, the text that it prints, and its link to a peer.
+///
+/// A call that is done raises no count, but for a receive that finds the end of the link. A call that is
+/// refused raises the count of its cause and changes nothing else, but for a write, which may leave a
+/// front of the bytes. No call tells whether the outside is steady.
 pub trait World {
     /// What the outside holds, as far as it tells, and how often a call of it was refused.
     ghost outside: { Self → Outside };
 
     /// The whole content of the file of this name, which has at most `max` bytes.
     ///
-    /// `Failed` comes only where the count of file faults rose, as for a missing file, and `TooLong`
-    /// only where more than `max` bytes of the file were taken. `NoMemory` comes where memory for the
-    /// content is wanting, and is not counted. A refused read changes nothing else.
+    /// `Failed` comes only where the count of file faults rose, as for a missing file, and in a steady
+    /// outside only for a missing file. `TooLong` comes only where more than `max` bytes of the file were
+    /// taken. `NoMemory` comes where memory for the content is wanting, and is not counted.
     fn read_file(&mut self, alloc: Global, name: &str, max: u32) -> Result<Vec<u8>, ReadFault>
-        ensures { Reads (outside self.old) name.now max (items_of result) (outside self.new) };
+        ensures { Reads (outside self.old) name.now max (as_list result) (outside self.new) };
+
+    /// Leaves just these bytes in the file of this name.
+    ///
+    /// `Failed` comes only where the count of file faults rose, and `NoMemory` only where the count of
+    /// refusals rose. After a refused write the file is as before, or has a front of the bytes.
+    fn write_file(&mut self, name: &str, bytes: &[u8]) -> Result<(), Fault>
+        ensures { Writes (outside self.old) name.now bytes.now result (outside self.new) };
 
     /// Prints a front of the bytes, at least one of them, and answers how many bytes that were.
     ///
@@ -25,6 +45,34 @@ pub trait World {
     fn print(&mut self, bytes: &[u8]) -> Result<usize, Fault>
         requires { 0 < length bytes.now }
         ensures { Prints (outside self.old) bytes.now result (outside self.new) };
+
+    /// Opens the link to a peer, which is then ready.
+    ///
+    /// `Failed` comes only where the count of link faults rose, and `NoMemory` only where the count of
+    /// refusals rose. A refused opening leaves the link as it was.
+    fn open_link(&mut self, side: Side, address: &str) -> Result<(), Fault>
+        ensures { Opens (outside self.old) result (outside self.new) };
+
+    /// Takes the next bytes of the link into the front of the buffer, and answers how many they are.
+    ///
+    /// No bytes are taken only where the count of ends rose and nothing more comes. `Failed` comes only
+    /// where the count of link faults rose; then nothing was taken, and the buffer may hold anything.
+    fn recv(&mut self, buf: &mut [u8]) -> Result<usize, Failed>
+        requires ready { IsTrue (outside self.old).ready }
+        requires room { 0 < length buf.old }
+        ensures { Receives (outside self.old) result buf.new (outside self.new) };
+
+    /// Sends a front of the bytes, at least one of them, and answers how many bytes that were.
+    ///
+    /// `Failed` comes only where the count of link faults rose, and `NoMemory` only where the count of
+    /// refusals rose. A refused send sends nothing.
+    fn send(&mut self, bytes: &[u8]) -> Result<usize, Fault>
+        requires ready { IsTrue (outside self.old).ready }
+        requires some { 0 < length bytes.now }
+        ensures { Sends (outside self.old) bytes.now result (outside self.new) };
+
+    /// A steady outside tells its files.
+    ghost tells: { (world : Self) → IsTrue (outside world).steady → IsSome (outside world).files };
 }
 
 /// Prints all the bytes, by as many prints as that takes.

@@ -1,23 +1,28 @@
-// The real outside: the files of the system, and standard output.
-ghost use Rattle.std.specs.Prelude.{◌≡◌, ◌<◌, length};
-ghost use Rattle.psi_base.specs.Memory.{next_count};
-ghost use Rattle.psi_base.specs.Outside.{Prints, Reads, items_of};
-ghost use Rattle.psi_cli.specs.Refused.{untold, CountsRead, PrintRefused, ReadsWhole};
+// The real outside: the files of the system, standard output, and one TCP stream.
+ghost use Rattle.std.specs.Prelude.{◌≡◌, ◌<◌, true, false, length, IsTrue};
+ghost use Rattle.std.proofs.Common.{rules};
+ghost use Rattle.psi_base.specs.State.{next_count};
+ghost use Rattle.psi_base.specs.Outside.{Opens, Prints, Reads, Receives, Sends, Writes, as_list};
+ghost use Rattle.psi_cli.specs.Refused.{untouched, CountsRead, LinkRefused, PrintRefused, ReadsWhole, WriteRefused};
 ghost use Rattle.psi_cli.specs.declared.real.Unread.TheVariants as unread;
 
-use psi_base::{Fault, ReadFault, World};
+use psi_base::{Failed, Fault, ReadFault, Side, World};
 use std::alloc::Global;
 use std::fs;
 use std::io::{self, Read, Write};
+use std::net::{Net, OpenListener, TcpListener, TcpStream};
 use std::rt::Files;
 
-/// The files of the system and standard output, over a runtime. It tells no content, and counts what
-/// went wrong.
+/// The files of the system, standard output and one TCP stream, over a runtime. It tells no content, and
+/// counts what went wrong.
 #[derive(Drop)]
-pub struct RealWorld<R: Files + Print + Drop> {
+pub struct RealWorld<R: Files + Print + Net + Drop> {
     rt: R,
+    stream: Option<R::Stream>,
     file_faults: u64,
+    link_faults: u64,
     print_faults: u64,
+    ends: u64,
     refusals: u64,
 }
 
@@ -40,7 +45,7 @@ impl From<io::Error> for Unread {
 
 // All the bytes that a reader has left, which are at most `max`. At most one more is taken.
 fn read_whole<F: Read + Drop>(alloc: Global, reader: F, max: u32) -> Result<Vec<u8>, Unread>
-    ensures { ReadsWhole (F.remaining reader) max (items_of result) }
+    ensures { ReadsWhole (F.remaining reader) max (as_list result) }
 {
     let mut bytes = Vec::new(alloc);
     reader.take(u64::from(max) + 1).read_to_end(&mut bytes)?;
@@ -51,17 +56,35 @@ fn read_whole<F: Read + Drop>(alloc: Global, reader: F, max: u32) -> Result<Vec<
     Ok(bytes)
 }
 
-impl<R: Files + Print + Drop> RealWorld<R> {
+impl<R: Files + Print + Net + Drop> RealWorld<R> {
     ghost use Rattle.psi_cli.specs.RealWorld.{outside_of};
 
-    /// Nothing went wrong yet.
+    /// Nothing went wrong yet, and there is no link.
     pub fn new(rt: R) -> RealWorld<R>
-        ensures { outside_of result ≡ untold 0 0 0 }
+        ensures { outside_of result ≡ untouched false }
     {
         RealWorld {
             rt,
+            stream: None,
             file_faults: 0,
+            link_faults: 0,
             print_faults: 0,
+            ends: 0,
+            refusals: 0,
+        }
+    }
+
+    /// Nothing went wrong yet, and the stream is the link, which is ready.
+    pub fn over(rt: R, stream: R::Stream) -> RealWorld<R>
+        ensures { outside_of result ≡ untouched true }
+    {
+        RealWorld {
+            rt,
+            stream: Some(stream),
+            file_faults: 0,
+            link_faults: 0,
+            print_faults: 0,
+            ends: 0,
             refusals: 0,
         }
     }
@@ -82,6 +105,18 @@ impl<R: Files + Print + Drop> RealWorld<R> {
         }
     }
 
+    // The fault of a write, which is counted.
+    fn write_fault(&mut self, kind: io::ErrorKind) -> Fault
+        ensures { WriteRefused (outside_of self.old) kind result (outside_of self.new) }
+    {
+        if kind == io::ErrorKind::OutOfMemory {
+            self.refusals = self.refusals.saturating_add(1);
+            return Fault::NoMemory;
+        }
+        self.file_faults = self.file_faults.saturating_add(1);
+        Fault::Failed
+    }
+
     // The fault of a print, which is counted.
     fn print_fault(&mut self, kind: io::ErrorKind) -> Fault
         ensures { PrintRefused (outside_of self.old) kind result (outside_of self.new) }
@@ -94,28 +129,66 @@ impl<R: Files + Print + Drop> RealWorld<R> {
         Fault::Failed
     }
 
+    // The fault of an opening of the link or of a send, which is counted.
+    fn link_fault(&mut self, kind: io::ErrorKind) -> Fault
+        ensures { LinkRefused (outside_of self.old) kind result (outside_of self.new) }
+    {
+        if kind == io::ErrorKind::OutOfMemory {
+            self.refusals = self.refusals.saturating_add(1);
+            return Fault::NoMemory;
+        }
+        self.link_faults = self.link_faults.saturating_add(1);
+        Fault::Failed
+    }
+
     fn read_named(&self, alloc: Global, name: &str, max: u32) -> Result<Vec<u8>, Unread>
-        ensures { ReadsWhole None max (items_of result) }
+        ensures { ReadsWhole None max (as_list result) }
     {
         let file = fs::open(&self.rt, name)?;
         read_whole(alloc, file, max)
     }
+
+    // The stream of a connection to the address, or of the first one that comes there.
+    fn stream_at(&self, side: Side, address: &str) -> io::Result<R::Stream> {
+        match side {
+            Side::Connect => TcpStream::connect(&self.rt, address),
+            Side::Listen => {
+                let listener = TcpListener::bind(&self.rt, address)?;
+                let (stream, _) = listener.accept()?;
+                Ok(stream)
+            }
+        }
+    }
 }
 
-impl<R: Files + Print + Drop> World for RealWorld<R> {
+impl<R: Files + Print + Net + Drop> World for RealWorld<R> {
     ghost use Rattle.psi_cli.specs.RealWorld.{outside_of};
 
     ghost outside = { outside_of };
 
     /// As `World` says. At most one byte more than `max` is taken.
     fn read_file(&mut self, alloc: Global, name: &str, max: u32) -> Result<Vec<u8>, ReadFault>
-        ensures reads { Reads (outside_of self.old) name.now max (items_of result) (outside_of self.new) }
+        ensures reads { Reads (outside_of self.old) name.now max (as_list result) (outside_of self.new) }
         ensures failed { result ≡ Err ReadFault.Failed →
             (outside_of self.new).file_faults ≡ next_count (outside_of self.old).file_faults }
     {
         match self.read_named(alloc, name, max) {
             Ok(bytes) => Ok(bytes),
             Err(unread) => Err(self.read_fault(unread)),
+        }
+    }
+
+    /// As `World` says.
+    fn write_file(&mut self, name: &str, bytes: &[u8]) -> Result<(), Fault>
+        ensures writes { Writes (outside_of self.old) name.now bytes.now result (outside_of self.new) }
+        ensures failed { result ≡ Err Fault.Failed →
+            (outside_of self.new).file_faults ≡ next_count (outside_of self.old).file_faults }
+        ensures refused { result ≡ Err Fault.NoMemory →
+            (outside_of self.new).refusals ≡ next_count (outside_of self.old).refusals }
+    {
+        match fs::write(&self.rt, name, bytes) {
+            Ok(()) => Ok(()),
+            Err(error) => Err(self.write_fault(error.kind())),
         }
     }
 
@@ -134,4 +207,62 @@ impl<R: Files + Print + Drop> World for RealWorld<R> {
             Err(error) => Err(self.print_fault(error.kind())),
         }
     }
+
+    /// As `World` says. Connects to the address, or takes the first connection that comes there. The new
+    /// stream takes the place of one that was there, which is closed; where none could be had, that stays.
+    fn open_link(&mut self, side: Side, address: &str) -> Result<(), Fault>
+        ensures opens { Opens (outside_of self.old) result (outside_of self.new) }
+        ensures failed { result ≡ Err Fault.Failed →
+            (outside_of self.new).link_faults ≡ next_count (outside_of self.old).link_faults }
+        ensures refused { result ≡ Err Fault.NoMemory →
+            (outside_of self.new).refusals ≡ next_count (outside_of self.old).refusals }
+    {
+        match self.stream_at(side, address) {
+            Ok(stream) => {
+                self.stream = Some(stream);
+                Ok(())
+            }
+            Err(error) => Err(self.link_fault(error.kind())),
+        }
+    }
+
+    /// As `World` says. Every error counts as a fault of the link.
+    fn recv(&mut self, buf: &mut [u8]) -> Result<usize, Failed>
+        requires ready { IsTrue (outside_of self.old).ready }
+        requires room { 0 < length buf.old }
+        ensures receives { Receives (outside_of self.old) result buf.new (outside_of self.new) }
+        ensures failed { result ≡ Err (record {}) →
+            (outside_of self.new).link_faults ≡ next_count (outside_of self.old).link_faults }
+    {
+        match self.stream.as_mut().unwrap().read(buf) {
+            Ok(0) => {
+                self.ends = self.ends.saturating_add(1);
+                Ok(0)
+            }
+            Ok(count) => Ok(count),
+            Err(_) => {
+                self.link_faults = self.link_faults.saturating_add(1);
+                Err(Failed)
+            }
+        }
+    }
+
+    /// As `World` says. A send that takes no bytes has failed.
+    fn send(&mut self, bytes: &[u8]) -> Result<usize, Fault>
+        requires ready { IsTrue (outside_of self.old).ready }
+        requires some { 0 < length bytes.now }
+        ensures sends { Sends (outside_of self.old) bytes.now result (outside_of self.new) }
+        ensures failed { result ≡ Err Fault.Failed →
+            (outside_of self.new).link_faults ≡ next_count (outside_of self.old).link_faults }
+        ensures refused { result ≡ Err Fault.NoMemory →
+            (outside_of self.new).refusals ≡ next_count (outside_of self.old).refusals }
+    {
+        match self.stream.as_mut().unwrap().write(bytes) {
+            Ok(0) => Err(self.link_fault(io::ErrorKind::WriteZero)),
+            Ok(count) => Ok(count),
+            Err(error) => Err(self.link_fault(error.kind())),
+        }
+    }
+
+    ghost tells = { λ _ steady. absurd (Prim.search rules) };
 }

@@ -9,7 +9,7 @@ const LONG: BadItems = BadItems::Long {
     length: 300,
 };
 
-const MANY: BadItems = BadItems::Many { line: 65_537 };
+const MANY: BadItems = BadItems::Many { line: 1_048_577 };
 
 const BAD_BYTE: Status = Status::BadItems {
     word: 2,
@@ -37,7 +37,7 @@ const NAMED: &[(Status, u8, &str)] = &[
     (Status::BadWords { at: 4 }, 2, "psi: bad word at 4\n"),
     (BAD_BYTE, 3, "psi: word 2: line 1: byte 13\n"),
     (LONG_ITEM, 3, "psi: word 1: line 2: item of 300 bytes\n"),
-    (MANY_ITEMS, 3, "psi: word 1: line 65537: too many items\n"),
+    (MANY_ITEMS, 3, "psi: word 1: line 1048577: too many items\n"),
     (
         Status::FileFault { word: 2 },
         10,

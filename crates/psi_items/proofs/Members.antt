@@ -58,7 +58,7 @@ AreItems-lines before (line ∷ rest) held none =
     bad_line : ℕ → LineFault → BadLine
     bad_line n found = record { line = n; fault = found }
 
--- a file without a fault has at most 65,536 distinct items of 1 to 256 bytes
+-- a file without a fault has at most 1,048,576 distinct items of 1 to 256 bytes
 pub AreItems-items_of : (bytes : List ℕ) → first_bad bytes ≡ None → AreItems (items_of bytes)
 unfolding first_bad items_of_lines
 AreItems-items_of bytes none = AreItems-lines [] (lines_of bytes) AreItems-nil none

@@ -9,7 +9,7 @@ pub record IsItem (item : List ℕ) : Type 0 where
   pub some : 1 ≤ length item
   pub short : length item ≤ line_limit
 
--- at most 65,536 items, no two of them equal
+-- at most 1,048,576 items, no two of them equal
 pub record AreItems (items : List (List ℕ)) : Type 0 where
   pub few : length items ≤ limit_items
   pub distinct : IsDistinct bytes_eq items

@@ -10,7 +10,7 @@ pub enum BadItems {
     /// The line's item would have more than 256 bytes. `length` is how many.
     #[error("line {line}: an item of {length} bytes")]
     Long { line: u32, length: u32 },
-    /// The line's item would be one more than 65,536.
+    /// The line's item would be one more than 1,048,576.
     #[error("line {line}: too many items")]
     Many { line: u32 },
     /// There was no memory for an item.

@@ -17,7 +17,7 @@ const LIMIT_ITEMS: usize = psi_base::LIMIT_ITEMS as usize;
 /// The most bytes of an item.
 const LINE_LIMIT: usize = psi_base::LINE_LIMIT as usize;
 
-/// The items of a file: at most 65,536 distinct byte strings of 1 to 256 bytes each, in the order
+/// The items of a file: at most 1,048,576 distinct byte strings of 1 to 256 bytes each, in the order
 /// in which the file's lines first give them.
 pub struct Items {
     set: IndexSet<Vec<u8>>,
@@ -50,7 +50,7 @@ impl Items {
     ///
     /// The first line with a fault decides: `Byte` where it holds a control byte other than a tab,
     /// else `Long` where its item would have more than 256 bytes, else `Many` where its item would
-    /// be one more than 65,536. `NoMemory` comes where there is no memory for an item.
+    /// be one more than 1,048,576. `NoMemory` comes where there is no memory for an item.
     pub fn read(alloc: Global, bytes: &[u8]) -> Result<Items, BadItems>
         requires { length bytes.now ≤ file_limit }
         ensures { ReadsItems bytes.now result }
@@ -124,7 +124,7 @@ impl Items {
         Ok(())
     }
 
-    /// How many items there are: at most 65,536.
+    /// How many items there are: at most 1,048,576.
     pub fn len(&self) -> u32
         ensures len { result ≡ length self.now }
         ensures items { AreItems self.now }

@@ -119,24 +119,30 @@ fn refuses_by_the_first_fault(rt: HostRuntime) -> Result<(), Fail> {
 #[test]
 fn refuses_too_many_items(rt: HostRuntime) -> Result<(), Fail> {
     let mut bytes = Vec::new(rt.alloc());
-    for number in 0..65536u32 {
-        for place in [12, 8, 4, 0] {
+    for number in 0..1_048_576u32 {
+        for place in [16, 12, 8, 4, 0] {
             bytes.push(b'a' + (number >> place & 0xf) as u8)?;
         }
         bytes.push(b'\n')?;
     }
-    assert_eq!(rt; listed(&rt, rt.alloc(), bytes.as_slice())?.len(), 65536 * 5);
+    assert_eq!(rt;
+        listed(&rt, rt.alloc(), bytes.as_slice())?.len(),
+        1_048_576 * 6
+    );
 
-    // A repeat in line 65,537 adds nothing, and another item there is one too many.
+    // A repeat in line 1,048,577 adds nothing, and another item there is one too many.
     let whole = bytes.len();
-    bytes.extend_from_slice(b"AAAA\n")?;
-    assert_eq!(rt; listed(&rt, rt.alloc(), bytes.as_slice())?.len(), 65536 * 5);
+    bytes.extend_from_slice(b"AAAAA\n")?;
+    assert_eq!(rt;
+        listed(&rt, rt.alloc(), bytes.as_slice())?.len(),
+        1_048_576 * 6
+    );
 
     bytes.truncate(whole);
     bytes.extend_from_slice(b"other\n")?;
     assert_eq!(rt;
         refusal(&rt, rt.alloc(), bytes.as_slice()),
-        Some(BadItems::Many { line: 65537 })
+        Some(BadItems::Many { line: 1_048_577 })
     );
     Ok(())
 }

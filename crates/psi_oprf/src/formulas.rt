@@ -1,7 +1,7 @@
 //! Codes of item digests, and tags of words.
 ghost use Rattle.std.specs.Prelude.{◌≡◌, ◌≤◌, length};
 ghost use Rattle.psi_spec.specs.Bits.{xor, both};
-ghost use Rattle.psi_spec.specs.Formulas.{code as code_of, code_half, tag, wide_tag};
+ghost use Rattle.psi_spec.specs.Formulas.{code as code_of, code_half, tag, padded_tag};
 
 use crate::words::Word512;
 use sha2::{Digest, Sha256};
@@ -52,11 +52,11 @@ pub fn tag_into(key: &[u8; 16], row: u32, word: &Word512, out: &mut [u8])
 }
 
 /// The tag, of `width` bytes from 1 to 16, of the receiver's own word `t` at a row.
-#[tactic(auto, unfolding(psi_spec::specs::Formulas::wide_tag))]
+#[tactic(auto, unfolding(psi_spec::specs::Formulas::padded_tag))]
 pub fn own_tag(key: &[u8; 16], width: u8, row: u32, t: &Word512) -> Tag
     requires least { 1 ≤ width }
     requires most { width ≤ 16 }
-    ensures { result ≡ wide_tag key.now width row t.now }
+    ensures { result ≡ padded_tag key.now width row t.now }
 {
     let mut tag = [0; 16];
     tag_into(key, row, t, &mut tag[..usize::from(width)]);
@@ -75,7 +75,7 @@ pub fn peer_tag(
 ) -> Tag
     requires least { 1 ≤ width }
     requires most { width ≤ 16 }
-    ensures { result ≡ wide_tag key.now width row (xor q.now (both choice.now code.now)) }
+    ensures { result ≡ padded_tag key.now width row (xor q.now (both choice.now code.now)) }
 {
     own_tag(key, width, row, &q.xor(&choice.and(code)))
 }

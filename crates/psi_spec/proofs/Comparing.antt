@@ -4,14 +4,14 @@ use Rattle.std.specs.List.{list_any}
 use Rattle.std.specs.Str.{bytes_eq}
 use Rattle.std.proofs.lemmas.Bool.{ne_eqb}
 use Rattle.psi_spec.specs.Bits.{xor, both}
-use Rattle.psi_spec.specs.Formulas.{item_digest, code, bin, wide_tag}
+use Rattle.psi_spec.specs.Formulas.{item_digest, code, bin, padded_tag}
 use Rattle.psi_spec.specs.Columns.{row_of}
 use Rattle.psi_spec.specs.Placement.{Slot}
 use Rattle.psi_spec.specs.Meeting.{Setup, IsSetup, row_word, own_tag, peer_tag, peer_row, meets}
 use Rattle.psi_spec.proofs.Xor.{opened, length-xor, length-both}
 use Rattle.psi_spec.proofs.Packing.{length-row_of}
 use Rattle.psi_spec.proofs.Sizes.{length-code}
-use Rattle.psi_spec.proofs.Tags.{bytes_eq-wide_tag}
+use Rattle.psi_spec.proofs.Tags.{bytes_eq-padded_tag}
 use Rattle.psi_spec.proofs.Placing.{length-row_word}
 
 -- ---- words
@@ -46,17 +46,17 @@ length-peer_word stash s index row y is_setup =
 -- ---- padded tags
 
 abbrev pub wide_own_tag : Setup → Slot → List ℕ
-wide_own_tag s slot = wide_tag s.key s.tag_length slot.row (row_of s.columns slot.row)
+wide_own_tag s slot = padded_tag s.key s.tag_length slot.row (row_of s.columns slot.row)
 
 abbrev pub wide_peer_tag : Setup → ℕ → ℕ → List ℕ → List ℕ
-wide_peer_tag s index row y = wide_tag s.key s.tag_length row (peer_word s index row y)
+wide_peer_tag s index row y = padded_tag s.key s.tag_length row (peer_word s index row y)
 
 -- to compare the padded tags is to compare the tags
 pub meets_by_wide_tags : (s : Setup) (slot : Slot) (y : List ℕ) → meets s slot y ≡ bytes_eq (wide_own_tag s slot) (wide_peer_tag s slot.index (peer_row s slot y) y)
 unfolding meets own_tag peer_tag
 meets_by_wide_tags s slot y =
     let row : ℕ = peer_row s slot y in
-    sym (bytes_eq-wide_tag s.key s.tag_length slot.row row (row_of s.columns slot.row) (peer_word s slot.index row y))
+    sym (bytes_eq-padded_tag s.key s.tag_length slot.row row (row_of s.columns slot.row) (peer_word s slot.index row y))
 
 -- ---- lists of tags
 

@@ -5,7 +5,7 @@ use Rattle.std.proofs.lemmas.List.{length-append, length-take-le, length-replica
 use Rattle.sha2.specs.Sha256.{sha256}
 use Rattle.sha2.proofs.Facts256.{length-sha256}
 use Rattle.psi_spec.specs.Bits.{zero_word}
-use Rattle.psi_spec.specs.Formulas.{item_digest, code_half, code, tag, wide_tag}
+use Rattle.psi_spec.specs.Formulas.{item_digest, code_half, code, tag, padded_tag}
 
 pub length-zero_word : length zero_word ≡ 64
 unfolding zero_word
@@ -29,7 +29,7 @@ length-tag key tag_length row word l =
     let whole : List ℕ = codes "psi-tags" ++ key ++ to_be_bytes w32 row ++ word in
     length-take-le tag_length (sha256 whole) (omega (arith, length-sha256 whole))
 
-pub length-wide_tag : (key : List ℕ) (tag_length row : ℕ) (word : List ℕ) → tag_length ≤ 16 → length (wide_tag key tag_length row word) ≡ 16
-unfolding wide_tag
-length-wide_tag key tag_length row word l =
+pub length-padded_tag : (key : List ℕ) (tag_length row : ℕ) (word : List ℕ) → tag_length ≤ 16 → length (padded_tag key tag_length row word) ≡ 16
+unfolding padded_tag
+length-padded_tag key tag_length row word l =
     omega (arith, length-append (tag key tag_length row word) (replicate (16 - tag_length) 0), length-tag key tag_length row word (omega arith), length-replicate {A = ℕ} (16 - tag_length) 0)

@@ -4,7 +4,7 @@ use Rattle.std.specs.Str.{bytes_eq}
 use Rattle.std.proofs.lemmas.Bool.Decides.{same_from_decides, Decides-like}
 use Rattle.std.proofs.lemmas.List.{append_cancel_right}
 use Rattle.std.proofs.lemmas.Slice.Eq.{bytes_eq-Decides}
-use Rattle.psi_spec.specs.Formulas.{tag, wide_tag}
+use Rattle.psi_spec.specs.Formulas.{tag, padded_tag}
 
 pub same_from_bytes_eq : (a b : List ℕ) → bytes_eq a b ≡ true → a ≡ b
 same_from_bytes_eq a b = (bytes_eq-Decides a b).0
@@ -20,10 +20,10 @@ bytes_eq-append_right a b end =
     (bytes_eq-Decides a b)
 
 -- wide tags of one length are equal where the tags are
-pub bytes_eq-wide_tag : (key : List ℕ) (tag_length row row' : ℕ) (word word' : List ℕ) → bytes_eq (wide_tag key tag_length row word) (wide_tag key tag_length row' word') ≡ bytes_eq (tag key tag_length row word) (tag key tag_length row' word')
-unfolding wide_tag
-bytes_eq-wide_tag key tag_length row row' word word' = bytes_eq-append_right (tag key tag_length row word) (tag key tag_length row' word') (replicate (16 - tag_length) 0)
+pub bytes_eq-padded_tag : (key : List ℕ) (tag_length row row' : ℕ) (word word' : List ℕ) → bytes_eq (padded_tag key tag_length row word) (padded_tag key tag_length row' word') ≡ bytes_eq (tag key tag_length row word) (tag key tag_length row' word')
+unfolding padded_tag
+bytes_eq-padded_tag key tag_length row row' word word' = bytes_eq-append_right (tag key tag_length row word) (tag key tag_length row' word') (replicate (16 - tag_length) 0)
 
-pub wide_tag_inj : (key : List ℕ) (tag_length row row' : ℕ) (word word' : List ℕ) → wide_tag key tag_length row word ≡ wide_tag key tag_length row' word' → tag key tag_length row word ≡ tag key tag_length row' word'
-unfolding wide_tag
+pub wide_tag_inj : (key : List ℕ) (tag_length row row' : ℕ) (word word' : List ℕ) → padded_tag key tag_length row word ≡ padded_tag key tag_length row' word' → tag key tag_length row word ≡ tag key tag_length row' word'
+unfolding padded_tag
 wide_tag_inj key tag_length row row' word word' e = append_cancel_right (tag key tag_length row word) (tag key tag_length row' word') (replicate (16 - tag_length) 0) e

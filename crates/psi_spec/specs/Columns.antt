@@ -6,7 +6,8 @@ use Rattle.psi_spec.specs.Bits.{bit_of, packed}
 
 -- the first n bytes of the key stream of a seed of 32 bytes and a 64-bit stream number
 unfoldable pub key_stream : List ℕ → ℕ → ℕ → List ℕ
-key_stream seed stream n = (fill_via_u32 (next_word 10) n (record { key = key_of seed; stream = stream; word_pos = 0 })).0
+key_stream seed stream n =
+    (fill_via_u32 (next_word 10) n (record { key = key_of seed; stream = stream; word_pos = 0 })).0
 
 -- the bytes of a column of so many rows
 abbrev pub column_bytes : ℕ → ℕ

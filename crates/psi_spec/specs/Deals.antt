@@ -33,7 +33,8 @@ seed_pairs (suc n) bytes = record { zero = take 32 bytes; one = take 32 (drop 32
 -- of each pair from base transfer c on the seed that the choice word names
 abbrev pub chosen_from : List ℕ → ℕ → List SeedPair → List (List ℕ)
 chosen_from choice c [] = []
-chosen_from choice c (pair ∷ pairs) = (if bit_of choice c == 0 then pair.zero else pair.one) ∷ chosen_from choice (c + 1) pairs
+chosen_from choice c (pair ∷ pairs) =
+    (if bit_of choice c == 0 then pair.zero else pair.one) ∷ chosen_from choice (c + 1) pairs
 
 -- the bytes of a deal: the key stream of the seed, with stream number 0
 abbrev pub deal_bytes : List ℕ → List ℕ

@@ -53,12 +53,15 @@ pub data LineFault : Type 0 where
 abbrev pub fault_of_item : List (List ℕ) → List ℕ → Option LineFault
 fault_of_item before item =
     if nat_lt line_limit (length item) then Some (is_long (length item))
-    else if not (length item == 0) && (not (list_any (bytes_eq item) before) && (length before == limit_items)) then Some is_too_many
+    else if not (length item == 0) && (not (list_any (bytes_eq item) before) && (length before == limit_items))
+        then Some is_too_many
     else None
 
 -- the fault of a line, with these items before it
 unfoldable pub fault_of : List (List ℕ) → List ℕ → Option LineFault
-fault_of before line = option_map_or (λ byte. Some (holds_byte byte)) (find is_control (strip_carriage_return line)) (fault_of_item before (normal line))
+fault_of before line =
+    option_map_or (λ byte. Some (holds_byte byte)) (find is_control (strip_carriage_return line))
+    (fault_of_item before (normal line))
 
 -- the number of a line, counted from 1, and its fault
 pub record BadLine : Type 0 where
@@ -68,7 +71,9 @@ pub record BadLine : Type 0 where
 -- the first line of `rest` that has a fault, where the lines `before` stand before them
 abbrev pub first_bad_after : List (List ℕ) → List (List ℕ) → Option BadLine
 first_bad_after before [] = None
-first_bad_after before (line ∷ rest) = option_map_or (λ fault. Some (record { line = length before + 1; fault = fault })) (fault_of (items_of_lines before) line) (first_bad_after (before ++ line ∷ []) rest)
+first_bad_after before (line ∷ rest) =
+    option_map_or (λ fault. Some (record { line = length before + 1; fault = fault }))
+    (fault_of (items_of_lines before) line) (first_bad_after (before ++ line ∷ []) rest)
 
 -- the first line of a file that has a fault
 unfoldable pub first_bad : List ℕ → Option BadLine

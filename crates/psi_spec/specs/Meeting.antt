@@ -49,7 +49,8 @@ pub record IsSetup (stash : ℕ) (s : Setup) : Type 0 where
 -- the code of the item that is placed at a row, or the zero word where none is
 abbrev pub row_word : List ℕ → List Placed → ℕ → List ℕ
 row_word key [] row = zero_word
-row_word key (p ∷ placed) row = if p.slot.row == row then code key p.slot.index (item_digest p.item) else row_word key placed row
+row_word key (p ∷ placed) row =
+    if p.slot.row == row then code key p.slot.index (item_digest p.item) else row_word key placed row
 
 -- the tag of a placed item: of its row and the word of the zero columns there
 unfoldable pub own_tag : Setup → Slot → List ℕ
@@ -57,9 +58,12 @@ own_tag s slot = tag s.key s.tag_length slot.row (row_of s.columns slot.row)
 
 -- the tag of a sender's item at an index and a row: what it hides there cancels where its code is the row's
 unfoldable pub peer_tag : Setup → ℕ → ℕ → List ℕ → List ℕ
-peer_tag s index row y = tag s.key s.tag_length row (xor (row_of s.columns row) (both s.choice (xor (row_word s.key s.placed row) (code s.key index (item_digest y)))))
+peer_tag s index row y =
+    tag s.key s.tag_length row
+    (xor (row_of s.columns row) (both s.choice (xor (row_word s.key s.placed row) (code s.key index (item_digest y)))))
 
--- the row at which a sender's item is compared with a slot: its own bin for the slot's index, or the slot's row in the stash
+-- the row at which a sender's item is compared with a slot: its own bin for the slot's index, or the slot's row in the
+-- stash
 abbrev pub peer_row : Setup → Slot → List ℕ → ℕ
 peer_row s slot y = if slot.index == 0 then slot.row else bin s.key s.bins slot.index (item_digest y)
 
@@ -85,7 +89,9 @@ named s ys p = find (meets s p.slot) ys
 
 -- a placed item names an item of the sender, the first that it meets, and their tags are equal
 abbrev pub SharesTag : Setup → List (List ℕ) → Placed → Type 0
-SharesTag s ys p = (y : List ℕ) × (named s ys p ≡ Some y) × Contains ys y × (own_tag s p.slot ≡ peer_tag s p.slot.index (peer_row s p.slot y) y)
+SharesTag s ys p =
+    (y : List ℕ) × (named s ys p ≡ Some y) × Contains ys y
+    × (own_tag s p.slot ≡ peer_tag s p.slot.index (peer_row s p.slot y) y)
 
 -- each common item is shown, and each shown item shares its tag with the sender's item that it names
 pub record ShowsCommon (s : Setup) (ys : List (List ℕ)) : Type 0 where

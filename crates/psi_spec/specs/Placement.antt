@@ -21,7 +21,8 @@ pub record IsPlacement (stash bins : ℕ) (candidates : List (List ℕ)) (slots 
 
 -- the three candidates of an item
 abbrev pub candidates_of : List ℕ → ℕ → List ℕ → List ℕ
-candidates_of key bins item = bin key bins 1 (item_digest item) ∷ bin key bins 2 (item_digest item) ∷ bin key bins 3 (item_digest item) ∷ []
+candidates_of key bins item =
+    bin key bins 1 (item_digest item) ∷ bin key bins 2 (item_digest item) ∷ bin key bins 3 (item_digest item) ∷ []
 
 -- a placement of these items
 abbrev pub IsPlacementOf : ℕ → List ℕ → ℕ → List (List ℕ) → List Slot → Type 0

@@ -55,7 +55,8 @@ word_at words at = unwrap_or (slice_get words at) []
 -- the least place from `at` on whose word is missing, out of form or one too many
 abbrev pub bad_from : List Form → List (List ℕ) → ℕ → Option ℕ
 bad_from [] words at = if nat_lt at (length words) then Some at else None
-bad_from (form ∷ forms) words at = option_map_or (λ word. if form word then bad_from forms words (at + 1) else Some at) (slice_get words at) (Some at)
+bad_from (form ∷ forms) words at =
+    option_map_or (λ word. if form word then bad_from forms words (at + 1) else Some at) (slice_get words at) (Some at)
 
 -- the least place, counted from 0, whose word fails the form of its command
 abbrev pub bad_word : List (List ℕ) → Option ℕ

@@ -5,7 +5,7 @@ use Rattle.std.specs.List.{Contains}
 use Rattle.std.proofs.lemmas.Bool.Decides.{nat_tests}
 use Rattle.std.proofs.lemmas.List.{append-nil, take_all}
 use Rattle.psi_spec.specs.Items.{BadLine, first_bad, items_of}
-use Rattle.psi_spec.specs.Limits.{bins_for, file_limit, stash_rows}
+use Rattle.psi_spec.specs.Limits.{bins_for, file_limit, usual_stash}
 use Rattle.psi_spec.specs.Meeting.{IsSetup, ShowsCommon, shown}
 use Rattle.psi_spec.specs.Placement.{stash_slots}
 use Rattle.psi_spec.specs.Texts.{lines_text}
@@ -245,9 +245,9 @@ is_sized words files before NoMemory after h = tt
 pub answers_sized : (words : List (List ℕ)) (before : Outside) (status : Status) (after : Outside) → Answers words before status after → LocalIsSized words before status
 answers_sized words before status after h = λ files is fit named. is_sized words files before status after (follows_told words before status after h files Local is fit named)
 
-local_is_setup : (words : List (List ℕ)) (xs : List (List ℕ)) → length xs ≤ most_local → IsSetup stash_rows (local_setup words xs)
+local_is_setup : (words : List (List ℕ)) (xs : List (List ℕ)) → length xs ≤ most_local → IsSetup usual_stash (local_setup words xs)
 unfolding local_setup
-local_is_setup words xs few = dealt_setup stash_rows (seed_of (word_at words 3)) (number_of (word_at words 4)) (number_of (word_at words 5)) xs few
+local_is_setup words xs few = dealt_setup usual_stash (seed_of (word_at words 3)) (number_of (word_at words 4)) (number_of (word_at words 5)) xs few
 
 local_places : (words : List (List ℕ)) (xs : List (List ℕ)) → map (λ p. p.item) (local_setup words xs).placed ≡ xs
 unfolding local_setup
@@ -268,7 +268,7 @@ answers_shown words before status after h bad = λ files printed now is was beca
     let ys = both.ys in
     let rest = rest_prints words xs ys text both.rest in
     let s = local_setup words xs in
-    let law : ShowsCommon s ys = shows_common stash_rows s ys (local_is_setup words xs rest.0) in
+    let law : ShowsCommon s ys = shows_common usual_stash s ys (local_is_setup words xs rest.0) in
     let all : Some now ≡ Some (printed ++ text) = sym became ∙ ap (λ (o : Outside). o.printed) follows.2 ∙ ap (λ (p : Option (List ℕ)). option_map (λ (p : List ℕ). p ++ text) p) was in
     let grown : now ≡ printed ++ text = cc all in
     record {

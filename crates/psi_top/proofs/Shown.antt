@@ -2,9 +2,9 @@
 use Rattle.std.proofs.Common.{◌≡◌, ◌+◌, ◌<◌, ◌≤◌, ℕ, Bool, List, [], ◌∷◌, length, map, drop, refl, sym, ap, ◌∙◌, arith}
 use Rattle.std.specs.List.{Contains, list_any}
 use Rattle.std.specs.Str.{bytes_eq}
-use Rattle.psi_spec.specs.Limits.{bins_for, rows_for, stash_rows}
+use Rattle.psi_spec.specs.Limits.{bins_for, rows_for, usual_stash}
 use Rattle.psi_spec.specs.Bits.{xor, both}
-use Rattle.psi_spec.specs.Formulas.{code, item_digest, wide_tag}
+use Rattle.psi_spec.specs.Formulas.{code, item_digest, padded_tag}
 use Rattle.psi_spec.specs.Columns.{row_of}
 use Rattle.psi_spec.specs.Deals.{dealt_receiver, dealt_sender, zero_columns}
 use Rattle.psi_spec.specs.Placement.{Slot, stash_slots}
@@ -43,13 +43,13 @@ meets_one : (dealt : Dealt) (s : Setup) (rows row : ℕ) (x y : List ℕ) → Ag
     → meets_code dealt (comparison_at dealt row x) (code dealt.key 0 (item_digest y)) ≡ meets s (record { row = row; index = 0 }) y
 meets_one dealt s rows row x y agrees within own_code =
     let word : List ℕ = row_of s.columns row in
-    let test : List ℕ → List ℕ → ℕ → List ℕ → List ℕ → Bool = λ key choice g t hidden. bytes_eq (wide_tag key g row t) (wide_tag key g row (xor (xor t (both choice hidden)) (both choice (code key 0 (item_digest y))))) in
+    let test : List ℕ → List ℕ → ℕ → List ℕ → List ℕ → Bool = λ key choice g t hidden. bytes_eq (padded_tag key g row t) (padded_tag key g row (xor (xor t (both choice hidden)) (both choice (code key 0 (item_digest y))))) in
     ap (λ (key : List ℕ). test key dealt.choice dealt.tag_length (zero_row (drop 96 dealt.bytes.items) dealt.session row) (code key 0 (item_digest x))) agrees.key
     ∙ ap (λ (choice : List ℕ). test s.key choice dealt.tag_length (zero_row (drop 96 dealt.bytes.items) dealt.session row) (code s.key 0 (item_digest x))) agrees.choice
     ∙ ap (λ (g : ℕ). test s.key s.choice g (zero_row (drop 96 dealt.bytes.items) dealt.session row) (code s.key 0 (item_digest x))) agrees.tag_length
     ∙ ap (λ (t : List ℕ). test s.key s.choice s.tag_length t (code s.key 0 (item_digest x))) (agrees.each_row row within)
     ∙ ap (λ (hidden : List ℕ). test s.key s.choice s.tag_length word hidden) (sym own_code)
-    ∙ ap (λ (peer : List ℕ). bytes_eq (wide_tag s.key s.tag_length row word) (wide_tag s.key s.tag_length row peer)) (peer_word_opened s 0 row y)
+    ∙ ap (λ (peer : List ℕ). bytes_eq (padded_tag s.key s.tag_length row word) (padded_tag s.key s.tag_length row peer)) (peer_word_opened s 0 row y)
     ∙ sym (meets_by_wide_tags s (record { row = row; index = 0 }) y)
 
 met_of : Comparison → Bool
@@ -70,7 +70,7 @@ flags_met dealt s rows ys row (x ∷ xs) agrees within codes =
 
 -- the deal of a seed has the values of the setup of `local`
 dealt_agrees : (words : List (List ℕ)) (xs : List (List ℕ)) (dealt : Dealt) → IsDealt (seed_of (word_at words 3)) (number_of (word_at words 4)) (number_of (word_at words 5)) dealt → length xs ≤ most_local
-    → Agrees dealt (local_setup words xs) (rows_for stash_rows (length xs))
+    → Agrees dealt (local_setup words xs) (rows_for usual_stash (length xs))
 unfolding local_setup dealt_receiver dealt_sender zero_row
 dealt_agrees words xs dealt made few = record {
   key = made.key;
@@ -82,7 +82,7 @@ dealt_agrees words xs dealt made few = record {
       let deal = dealt_receiver seed session (number_of (word_at words 5)) in
       ap (λ (bytes : List ℕ). zero_row (drop 96 bytes) dealt.session row) made.bytes
       ∙ ap (λ (n : ℕ). zero_row (drop 96 (Rattle.psi_spec.specs.Deals.deal_bytes seed)) n row) made.session
-      ∙ sym (row_of-zero_columns deal (rows_for stash_rows (length xs)) 16 row within (omega arith));
+      ∙ sym (row_of-zero_columns deal (rows_for usual_stash (length xs)) 16 row within (omega arith));
 }
 
 -- the text of what was met is what `local` prints
@@ -92,9 +92,9 @@ unfolding local_text local_setup HasCodes
 met_is_shown words xs ys dealt made few =
     let s = local_setup words xs in
     let slots = stash_slots (bins_for (length xs)) (length xs) in
-    let is_setup : IsSetup stash_rows s = dealt_setup stash_rows (seed_of (word_at words 3)) (number_of (word_at words 4)) (number_of (word_at words 5)) xs few in
+    let is_setup : IsSetup usual_stash s = dealt_setup usual_stash (seed_of (word_at words 3)) (number_of (word_at words 4)) (number_of (word_at words 5)) xs few in
     let codes : HasCodes s (placed_of xs slots) = λ p there. row_word_of_placed s.key s.placed p is_setup.placed.apart there in
-    let flags = flags_met dealt s (rows_for stash_rows (length xs)) ys (bins_for (length xs)) xs (dealt_agrees words xs dealt made few) (omega arith) codes in
+    let flags = flags_met dealt s (rows_for usual_stash (length xs)) ys (bins_for (length xs)) xs (dealt_agrees words xs dealt made few) (omega arith) codes in
     ap lines_text (
     met_items_flagged (map (after_items dealt ys) (comparisons_from dealt (bins_for (length xs)) xs)) xs
     ∙ ap (λ (fs : List Bool). flagged fs xs) flags

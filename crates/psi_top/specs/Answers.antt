@@ -4,7 +4,7 @@ use Rattle.std.specs.Option.{option_map_or}
 use Rattle.psi_spec.specs.Limits.{file_limit}
 use Rattle.psi_spec.specs.Items.{items_of, first_bad}
 use Rattle.psi_spec.specs.Words.{word_at, bad_word}
-use Rattle.psi_base.specs.Outside.{Outside, Files, HasFile, IsLonger, FileFailed, PrintFailed, printed_too}
+use Rattle.psi_base.specs.Outside.{Outside, Files, HasFile, HasAtLeast, FileFailed, PrintFailed, printed_too}
 use Rattle.psi_items.specs.Reading.{bad_items_of}
 use Rattle.psi_top.specs.Form.{command_of}
 use Rattle.psi_top.specs.Local.{local_text, most_local}
@@ -76,7 +76,7 @@ Ends due before (TooLong word taken) after = ⊥
 -- how a command ends, for what it is due at contents of its files
 abbrev pub Follows : (Contents → Due) → Contents → Outside → Status → Outside → Type 0
 Follows due contents before (BadItems word fault) after = (due contents ≡ refused (BadItems word fault)) × (after ≡ before)
-Follows due contents before (FileFault word) after = (due (without word contents) ≡ lacks word) × FileFailed before after
+Follows due contents before (FileFault word) after = (due (without word contents) ≡ lacks word) × (name : List ℕ) × FileFailed before name after
 Follows due contents before (TooLong word taken) after = (due contents ≡ long word) × (file_limit < taken) × (after ≡ before)
 Follows due contents before status after = Ends (due contents) before status after
 
@@ -89,7 +89,7 @@ abbrev pub HasCause : Outside → Status → Outside → Type 0
 HasCause before Done after = (text : List ℕ) × (after ≡ printed_too before text)
 HasCause before (BadWords at) after = ⊥
 HasCause before (BadItems word fault) after = after ≡ before
-HasCause before (FileFault word) after = FileFailed before after
+HasCause before (FileFault word) after = (name : List ℕ) × FileFailed before name after
 HasCause before PrintFault after = (text : List ℕ) × PrintFailed (printed_too before text) after
 HasCause before (TooLong word taken) after = (file_limit < taken) × (after ≡ before)
 HasCause before (LargeSet count) after = (most_local < count) × (after ≡ before)
@@ -124,8 +124,8 @@ pub record IsBad (files : Option Files) (words : List (List ℕ)) (word : ℕ) (
 abbrev pub Judges : List (List ℕ) → ℕ → Outside → Result (List (List ℕ)) Status → Outside → Type 0
 Judges words word before (Ok items) after = HasItems before.files words word items × (after ≡ before)
 Judges words word before (Err (BadItems place fault)) after = (place ≡ word) × IsBad before.files words word (BadItems word fault) × (after ≡ before)
-Judges words word before (Err (FileFault place)) after = (place ≡ word) × FileFailed before after
-Judges words word before (Err (TooLong place taken)) after = (place ≡ word) × (file_limit < taken) × IsLonger before.files (word_at words word) file_limit × (after ≡ before)
+Judges words word before (Err (FileFault place)) after = (place ≡ word) × FileFailed before (word_at words word) after
+Judges words word before (Err (TooLong place taken)) after = (place ≡ word) × (file_limit < taken) × HasAtLeast before.files (word_at words word) taken × (after ≡ before)
 Judges words word before (Err NoMemory) after = after ≡ before
 Judges words word before (Err Done) after = ⊥
 Judges words word before (Err (BadWords at)) after = ⊥

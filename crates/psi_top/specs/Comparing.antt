@@ -3,7 +3,7 @@ use Rattle.std.specs.Prelude.{◌≡◌, ℕ, ◌+◌, ◌≤◌, ◌||◌, leng
 use Rattle.std.specs.List.{list_any}
 use Rattle.std.specs.Str.{bytes_eq}
 use Rattle.psi_spec.specs.Bits.{xor, both}
-use Rattle.psi_spec.specs.Formulas.{code, item_digest, wide_tag}
+use Rattle.psi_spec.specs.Formulas.{code, item_digest, padded_tag}
 use Rattle.psi_spec.specs.Deals.{deal_bytes}
 use Rattle.psi_top.specs.Dealing.{zero_row}
 use Rattle.psi_top.specs.declared.dealing.Dealt.{Dealt}
@@ -27,7 +27,7 @@ pub record IsReady (dealt : Dealt) : Type 0 where
 abbrev pub comparison_at : Dealt → ℕ → List ℕ → Comparison
 comparison_at dealt row item = record {
   row = row;
-  own = wide_tag dealt.key dealt.tag_length row (zero_row (drop 96 dealt.bytes.items) dealt.session row);
+  own = padded_tag dealt.key dealt.tag_length row (zero_row (drop 96 dealt.bytes.items) dealt.session row);
   opened = xor (zero_row (drop 96 dealt.bytes.items) dealt.session row) (both dealt.choice (code dealt.key 0 (item_digest item)));
   met = false;
 }
@@ -39,7 +39,7 @@ comparisons_from dealt row (item ∷ items) = comparison_at dealt row item ∷ c
 
 -- whether an item of the sender with this code has a tag that equals the own tag
 abbrev pub meets_code : Dealt → Comparison → List ℕ → Bool
-meets_code dealt c word = bytes_eq c.own (wide_tag dealt.key dealt.tag_length c.row (xor c.opened (both dealt.choice word)))
+meets_code dealt c word = bytes_eq c.own (padded_tag dealt.key dealt.tag_length c.row (xor c.opened (both dealt.choice word)))
 
 -- after one item of the sender, by its code
 abbrev pub after_code : Dealt → List ℕ → Comparison → Comparison

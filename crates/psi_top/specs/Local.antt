@@ -1,6 +1,6 @@
 -- What `local` prints.
 use Rattle.std.specs.Prelude.{ℕ, List, length}
-use Rattle.psi_spec.specs.Limits.{bins_for, stash_rows}
+use Rattle.psi_spec.specs.Limits.{bins_for, usual_stash}
 use Rattle.psi_spec.specs.Deals.{ReceiverDeal, SenderDeal, dealt_receiver, dealt_sender}
 use Rattle.psi_spec.specs.Placement.{stash_slots}
 use Rattle.psi_spec.specs.Meeting.{Setup, setup_of, shown}
@@ -20,7 +20,7 @@ local_sender words = dealt_sender (seed_of (word_at words 3)) (number_of (word_a
 
 -- the setup of `local`: the receiver's item i stands at row bins + i with index 0
 unfoldable pub local_setup : List (List ℕ) → List (List ℕ) → Setup
-local_setup words items = setup_of stash_rows (local_receiver words) (local_sender words) items (stash_slots (bins_for (length items)) (length items))
+local_setup words items = setup_of usual_stash (local_receiver words) (local_sender words) items (stash_slots (bins_for (length items)) (length items))
 
 -- what `local` prints: the receiver's items that meet some item of the sender, a line each
 unfoldable pub local_text : List (List ℕ) → List (List ℕ) → List (List ℕ) → List ℕ
