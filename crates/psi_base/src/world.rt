@@ -1,5 +1,5 @@
 // The outside as a trait with one ghost record, and a loop over its prints.
-ghost use Rattle.std.specs.Prelude.{◌<◌, length, IsSome, IsTrue};
+ghost use Rattle.std.specs.Prelude.{◌<◌, ℕ, List, length, IsSome, IsTrue};
 ghost use Rattle.psi_base.specs.Outside.{Outside, Opens, Prints, PrintsAll, Reads, Receives, Sends, Writes, as_list};
 
 use crate::{Failed, Fault, ReadFault};
@@ -23,13 +23,20 @@ pub trait World {
     /// What the outside holds, as far as it tells, and how often a call of it was refused.
     ghost outside: { Self → Outside };
 
+    /// What a read of the file of a name may answer. Nothing but a read makes it known, so whatever rests on a
+    /// content rests on one that was read, also in an outside that tells no files.
+    ghost gives: { List ℕ → List ℕ → Type 0 };
+
+    /// What a receive may take. Nothing but a receive makes it known.
+    ghost comes: { List ℕ → Type 0 };
+
     /// The whole content of the file of this name, which has at most `max` bytes.
     ///
     /// `Failed` comes only where the count of file faults rose, as for a missing file, and in a steady
     /// outside only for a missing file. `TooLong` comes only where more than `max` bytes of the file were
     /// taken. `NoMemory` comes where memory for the content is wanting, and is not counted.
     fn read_file(&mut self, alloc: Global, name: &str, max: u32) -> Result<Vec<u8>, ReadFault>
-        ensures { Reads (outside self.old) name.now max (as_list result) (outside self.new) };
+        ensures { Reads gives (outside self.old) name.now max (as_list result) (outside self.new) };
 
     /// Leaves just these bytes in the file of this name.
     ///
@@ -60,7 +67,7 @@ pub trait World {
     fn recv(&mut self, buf: &mut [u8]) -> Result<usize, Failed>
         requires ready { IsTrue (outside self.old).ready }
         requires room { 0 < length buf.old }
-        ensures { Receives (outside self.old) result buf.new (outside self.new) };
+        ensures { Receives comes (outside self.old) result buf.new (outside self.new) };
 
     /// Sends a front of the bytes, at least one of them, and answers how many bytes that were.
     ///
