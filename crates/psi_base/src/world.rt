@@ -1,6 +1,6 @@
 // The outside as a trait with one ghost record, and a loop over its prints.
-ghost use Rattle.std.specs.Prelude.{◌<◌, ℕ, List, length, IsSome, IsTrue};
-ghost use Rattle.psi_base.specs.Outside.{Outside, Opens, Prints, PrintsAll, Reads, Receives, Sends, Writes, as_list};
+ghost use Rattle.std.specs.Prelude.{◌<◌, length, IsSome, IsTrue};
+ghost use Rattle.psi_base.specs.Outside.{Known, Outside, Opens, Prints, PrintsAll, Reads, Receives, Sends, Writes, as_list};
 
 use crate::{Failed, Fault, ReadFault};
 use std::alloc::Global;
@@ -23,12 +23,9 @@ pub trait World {
     /// What the outside holds, as far as it tells, and how often a call of it was refused.
     ghost outside: { Self → Outside };
 
-    /// What a read of the file of a name may answer. Nothing but a read makes it known, so whatever rests on a
-    /// content rests on one that was read, also in an outside that tells no files.
-    ghost gives: { List ℕ → List ℕ → Type 0 };
-
-    /// What a receive may take. Nothing but a receive makes it known.
-    ghost comes: { List ℕ → Type 0 };
+    /// What a read of the file of a name may answer, and what a receive may take. Nothing but such a call makes
+    /// it known, so what rests on a content rests on one that was read, also in an outside that tells no files.
+    ghost known: { Known };
 
     /// The whole content of the file of this name, which has at most `max` bytes.
     ///
@@ -36,7 +33,7 @@ pub trait World {
     /// outside only for a missing file. `TooLong` comes only where more than `max` bytes of the file were
     /// taken. `NoMemory` comes where memory for the content is wanting, and is not counted.
     fn read_file(&mut self, alloc: Global, name: &str, max: u32) -> Result<Vec<u8>, ReadFault>
-        ensures { Reads gives (outside self.old) name.now max (as_list result) (outside self.new) };
+        ensures { Reads known (outside self.old) name.now max (as_list result) (outside self.new) };
 
     /// Leaves just these bytes in the file of this name.
     ///
@@ -67,7 +64,7 @@ pub trait World {
     fn recv(&mut self, buf: &mut [u8]) -> Result<usize, Failed>
         requires ready { IsTrue (outside self.old).ready }
         requires room { 0 < length buf.old }
-        ensures { Receives comes (outside self.old) result buf.new (outside self.new) };
+        ensures { Receives known (outside self.old) result buf.new (outside self.new) };
 
     /// Sends a front of the bytes, at least one of them, and answers how many bytes that were.
     ///
