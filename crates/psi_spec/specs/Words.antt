@@ -1,5 +1,5 @@
 -- The words of a command line: their forms, and what they say.
-use Rattle.std.specs.Prelude.{ℕ, ◌+◌, ◌-◌, ◌^◌, ◌==◌, ◌&&◌, Bool, not, List, [], ◌∷◌, length, take, drop, Option, Some, None, nat_lt, nat_le, slice_get, unwrap_or, codes, if◌then◌else◌}
+use Rattle.std.specs.Prelude.{ℕ, ◌+◌, ◌-◌, ◌^◌, ◌==◌, ◌&&◌, ◌||◌, Bool, false, not, List, [], ◌∷◌, length, zero, suc, Option, Some, None, nat_lt, nat_le, slice_get, unwrap_or, codes, if◌then◌else◌}
 use Rattle.std.specs.Char.{is_ascii_digit}
 use Rattle.std.specs.List.{after_first, before_first, list_all, list_any}
 use Rattle.std.specs.Option.{option_map_or}
@@ -76,10 +76,15 @@ Form = List (List ℕ) → ℕ → Bool
 abbrev pub alone : (List ℕ → Bool) → Form
 alone test words at = test (word_at words at)
 
--- the name of a file that is written: not one of the file names from this place up to that one
+-- whether the word is one of so many words from a place on
+abbrev pub is_among : List (List ℕ) → List ℕ → ℕ → ℕ → Bool
+is_among words word from zero = false
+is_among words word from (suc count) = bytes_eq (word_at words from) word || is_among words word (from + 1) count
+
+-- the name of a file that is written: not one of the names of files from this place on and before that one
 abbrev pub is_output : ℕ → ℕ → Form
 is_output from to words at =
-    is_name (word_at words at) && not (list_any (bytes_eq (word_at words at)) (take (to - from) (drop from words)))
+    is_name (word_at words at) && not (is_among words (word_at words at) from (to - from))
 
 -- the forms of the words after a command's name: of those that must be there, and of those that may
 pub record Forms : Type 0 where

@@ -1,6 +1,15 @@
+pub mod Answered
 pub mod Compared
+pub mod Counted
+pub mod Forms
 pub mod Laws
+pub mod Left
+pub mod LocalLaws
 pub mod LocalWords
+pub mod Placed
 pub mod Rows
 pub mod Shown
+pub mod Standing
+pub mod Walked
+pub mod Walks
 pub mod WordValues

@@ -82,7 +82,8 @@ pub fn comparisons(
 // Compares one item of the sender with each of the receiver's.
 fn compare_item(dealt: &Dealt, item: &[u8], comparisons: &mut [Comparison])
     requires { IsReady dealt.now }
-    ensures { comparisons.new ≡ map (after_code dealt.now (code dealt.now.key 0 (item_digest item.now))) comparisons.old }
+    ensures { comparisons.new
+        ≡ map (after_code dealt.now (code dealt.now.key 0 (item_digest item.now))) comparisons.old }
 {
     let code = code(&dealt.key, 0, &digest(item));
     for comparison in comparisons {

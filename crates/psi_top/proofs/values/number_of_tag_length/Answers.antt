@@ -1,7 +1,7 @@
 use Rattle.std.proofs.Common.{refl, ◌<◌, ◌^◌, arith}
 use Rattle.psi_spec.specs.Words.{number_of}
 use Rattle.psi_top.proofs.WordValues.{tag_length_parts, parse_number}
-use Rattle.psi_top.proofs.values.tag_length_of.Goals as goal
+use Rattle.psi_top.proofs.values.number_of_tag_length.Goals as goal
 
 pub unwrap-requires : goal.unwrap-requires
 unwrap-requires c =
