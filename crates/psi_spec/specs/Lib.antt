@@ -6,6 +6,7 @@ pub mod Columns
 pub mod Deals
 pub mod Placement
 pub mod Meeting
+pub mod Frames
 pub mod Texts
 pub mod Words
 pub mod Laws
