@@ -11,6 +11,8 @@ mod outbox;
 mod reasons;
 mod room;
 mod tags;
+#[cfg(test)]
+mod tests;
 mod turns;
 mod whole;
 

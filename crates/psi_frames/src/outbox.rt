@@ -53,7 +53,7 @@ impl Outbox {
     pub fn pending(&self) -> &[u8]
         ensures { result.now ≡ self.now.pending }
     {
-        &self.bytes[..self.end][self.start..]
+        &self.bytes[self.start..self.end]
     }
 
     /// How many bytes may be added now.
