@@ -46,10 +46,10 @@ payload_of expect.Done = 0
 abbrev pub frame_length : Expect → ℕ
 frame_length e = 5 + payload_of e
 
--- what a call may expect: tags are no longer than their floor, which has 16 bytes
-abbrev pub IsDue : Expect → Type 0
-IsDue (expect.Tags list block tags width floor) = width ≤ 16
-IsDue e = ⊤
+-- expected tags are no longer than their floor, which has 16 bytes
+abbrev pub FitsFloor : Expect → Type 0
+FitsFloor (expect.Tags list block tags width floor) = width ≤ 16
+FitsFloor e = ⊤
 
 -- a number, and why it is refused
 abbrev pub number_field : Width → (ℕ → Option Reason) → Field Reason

@@ -1,9 +1,9 @@
 -- The laws of frames.
-use Rattle.std.specs.Prelude.{◌≡◌, ◌≤◌, ◌⊎◌, ◌↔◌, ℕ, false, List, [], ◌∷◌, ◌++◌, length, replicate, Option, Some, None, Result, Ok, Err}
+use Rattle.std.specs.Prelude.{◌≡◌, ◌*◌, ◌<◌, ◌≤◌, ◌⊎◌, ◌↔◌, ℕ, false, List, [], ◌∷◌, ◌++◌, length, take, drop, replicate, slice_index_or, Option, Some, None, Result, Ok, Err}
 use Rattle.std.specs.Cmp.Lexicographic.{slice_cmp}
 use Rattle.std.specs.List.Sorted.{IsSorted}
 use Rattle.std.specs.Ordering.{nat_cmp}
-use Rattle.psi_spec.specs.Frames.{AreBytes, Frame, first_below, is_below, layout, total_size}
+use Rattle.psi_spec.specs.Frames.{AreBytes, Frame, first_below, is_below, layout, tags_of, total_size}
 use Rattle.psi_frames.specs.declared.expect.Expect.{Expect}
 use Rattle.psi_frames.specs.declared.frame.Frame as lent
 use Rattle.psi_frames.specs.declared.reasons.BadFrame.{BadFrame}
@@ -20,6 +20,12 @@ abbrev pub OrderBySorting : Type 0
 OrderBySorting =
     (before : List ℕ) (tags : List (List ℕ))
     → (first_below before tags ≡ None) ↔ IsSorted (slice_cmp nat_cmp) (before ∷ tags)
+
+-- a tag of several, by its place
+abbrev pub TagsByPlace : Type 0
+TagsByPlace =
+    (count width : ℕ) (bytes : List ℕ) (k : ℕ) → k < count
+    → slice_index_or (tags_of count width bytes) k [] ≡ take width (drop (k * width) bytes)
 
 -- no tag is below zeros: after them, as before a first block, the first tag is in order
 abbrev pub NoneBelowZeros : Type 0

@@ -4,7 +4,7 @@ ghost use Rattle.std.specs.Prelude.{◌≡◌, ◌*◌, ◌≤◌, [], ◌∷◌
 ghost use Rattle.psi_spec.specs.Columns.{column_bytes as bytes_for};
 ghost use Rattle.psi_spec.specs.Frames.{first_wrong};
 ghost use Rattle.psi_spec.specs.Frames as spec;
-ghost use Rattle.psi_frames.specs.Expected.{wrong, hello_fields, number_fields, column_field, column_fields, tags_fields, tags_field, payload_fields, IsDue};
+ghost use Rattle.psi_frames.specs.Expected.{wrong, hello_fields, number_fields, column_field, column_fields, tags_fields, tags_field, payload_fields, FitsFloor};
 
 use crate::expect::{Expect, column_bytes};
 use crate::frame::VERSION;
@@ -134,7 +134,7 @@ fn wrong_order(count: u16, width: usize, floor: &[u8; 16], tags: &[u8]) -> Optio
 
 // What is wrong with a payload.
 fn wrong_payload(expect: &Expect, payload: &[u8]) -> Option<Reason>
-    requires { IsDue expect.now }
+    requires { FitsFloor expect.now }
     ensures { result ≡ first_wrong (payload_fields expect.now) payload.now }
 {
     match expect {
@@ -157,7 +157,7 @@ fn wrong_payload(expect: &Expect, payload: &[u8]) -> Option<Reason>
 /// there.
 #[tactic(auto, unfolding(crate::specs::Expected::wrong))]
 pub(crate) fn first_fault(expect: &Expect, bytes: &[u8]) -> Option<Reason>
-    requires { IsDue expect.now }
+    requires { FitsFloor expect.now }
     ensures { result ≡ wrong expect.now bytes.now }
 {
     let (kind, rest) = bytes.split_first()?;

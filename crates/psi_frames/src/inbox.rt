@@ -16,6 +16,10 @@ use std::alloc::Global;
 use std::marker::Model;
 
 /// The bytes that came of the frame in progress, in a room that is taken when the inbox is made.
+///
+/// `missing`, `feed` and `next` are told which frame is expected. It fits the room and ends at a place below
+/// 2^64, its tags have at most 16 bytes, and no more bytes are held than it has. After a refusal it is still
+/// the frame that was refused.
 #[derive(Drop)]
 pub struct Inbox {
     bytes: Vec<u8>,
@@ -42,11 +46,8 @@ impl Model for Inbox {
 }
 
 impl Inbox {
-    /// An inbox with room for `n` bytes, at most `INBOX_ROOM`, that holds none.
-    ///
-    /// # Errors
-    ///
-    /// Where memory is wanting.
+    /// An inbox with room for `n` bytes, at most `INBOX_ROOM`, that holds none. It is refused only where
+    /// memory is wanting; no other call takes memory.
     pub fn with_room(alloc: Global, n: u32) -> Result<Inbox, NoMemory>
         requires { n ≤ INBOX_ROOM }
         ensures { IfOk result (λ box. box ≡ record { room = n; held = []; offset = 0; refused = None }) }
@@ -95,8 +96,6 @@ impl Inbox {
 
     /// The frame, lent out of the inbox, where the held bytes are a whole one; the inbox then holds nothing.
     /// None where they begin one, and then nothing changes.
-    ///
-    /// # Errors
     ///
     /// The first field that is wrong is refused as soon as its last byte is there, and each later call
     /// answers the same refusal.

@@ -1,5 +1,5 @@
-//! The frames of a session: their bytes, the boxes that they leave from and come into, and what is
-//! wrong with bytes where one frame is expected.
+//! The frames of a session: their bytes, the boxes that they leave from and come into, and what is wrong
+//! with bytes where one frame is expected. The profile is psi's own.
 #![tactic(auto)]
 
 mod expect;

@@ -37,7 +37,8 @@ impl Model for Outbox {
 }
 
 impl Outbox {
-    /// An outbox with room for `n` bytes, and nothing to be sent.
+    /// An outbox with room for `n` bytes, and nothing to be sent. It is refused only where memory is wanting;
+    /// no other call takes memory.
     pub fn with_room(alloc: Global, n: u32) -> Result<Outbox, NoMemory>
         ensures { IfOk result (λ box. box ≡ record { pending = []; spare = n; room = n }) }
     {

@@ -1,14 +1,14 @@
 -- Fields that are judged in order.
-use Rattle.std.proofs.Common.{Ordering, ◌≡◌, ◌<◌, ◌≤◌, ◌+◌, ◌*◌, ◌==◌, ◌↔◌, ◌∙◌, ℕ, suc, zero, Bool, true, false, cond, List, [], ◌∷◌, ◌++◌, length, take, drop, replicate, get_or, Option, Some, None, nat_lt, refl, sym, ap, ap₂, arith, append_assoc, length-append, length-drop}
+use Rattle.std.proofs.Common.{Ordering, ◌≡◌, ◌<◌, ◌≤◌, ◌+◌, ◌*◌, ◌==◌, ◌↔◌, ◌∙◌, ℕ, suc, zero, Bool, true, false, cond, List, [], ◌∷◌, ◌++◌, length, take, drop, replicate, get_or, Option, Some, None, nat_lt, refl, sym, ap, ap₂, arith, append_assoc, length-append}
 use Rattle.std.specs.Cmp.Lexicographic.{slice_cmp}
 use Rattle.std.specs.Int.{w16, w32, w64, to_be_bytes, from_be_bytes}
-use Rattle.std.specs.List.{concat, position_from, zip}
+use Rattle.std.specs.List.{position_from, zip}
 use Rattle.std.specs.List.Sorted.{IsSorted}
 use Rattle.std.specs.Ordering.{is_lt, nat_cmp, ordering_then}
 use Rattle.std.specs.Option.{option_or}
 use Rattle.std.proofs.lemmas.Bool.{le-ltb, ltb-false}
 use Rattle.std.proofs.lemmas.Bool.Decides.{nat_tests}
-use Rattle.std.proofs.lemmas.List.{take-append-le, drop-append-le, take_all, drop_all, drop-drop, take-append-drop}
+use Rattle.std.proofs.lemmas.List.{take-append-le, drop-append-le, take_all, drop_all, drop-drop}
 use Rattle.std.proofs.lemmas.Nat.{from_be_bytes-to_be_bytes_2, from_be_bytes-to_be_bytes_4, from_be_bytes-to_be_bytes_8}
 use Rattle.psi_spec.specs.Frames.{AreBytes, Field, Fits, FitsHello, Frame, column_frame, done_frame, first_below, first_wrong, hello_payload, is_below, layout, receiver_hello, sender_hello, tags_frame, tags_of}
 
@@ -62,6 +62,17 @@ module _ {Why : Type 0} where
       judged field fields (bytes ++ more) there_too
       ∙ ap (λ (xs : List ℕ). option_or (field.refuse xs) (first_wrong fields (drop field.size (bytes ++ more)))) (take-append-le field.size bytes more there)
       ∙ stays_or (field.refuse (take field.size bytes)) _ _ why (sym (judged field fields bytes there) ∙ found) rest
+
+  -- behind a front that is right, what is right is right too
+  pub first_wrong-more : (field : Field Why) (fields : List (Field Why)) (front rest : List ℕ) → length front ≡ field.size → field.refuse front ≡ None → first_wrong fields rest ≡ None
+      → first_wrong (field ∷ fields) (front ++ rest) ≡ None
+  first_wrong-more field fields front rest long right later =
+      let there : field.size ≤ length (front ++ rest) = omega (arith, long, length-append front rest) in
+      let here : take field.size (front ++ rest) ≡ front = take-append-le field.size front rest (omega (arith, long)) ∙ take_all field.size front (omega (arith, long)) in
+      let behind : drop field.size (front ++ rest) ≡ rest = drop-append-le field.size front rest (omega (arith, long)) ∙ ap (λ (xs : List ℕ). xs ++ rest) (drop_all field.size front (omega (arith, long))) in
+      judged field fields (front ++ rest) there
+      ∙ ap₂ (λ (xs ys : List ℕ). option_or (field.refuse xs) (first_wrong fields ys)) here behind
+      ∙ ap₂ (λ (x y : Option Why). option_or x y) right later
 
 -- what a hello's payload says, a function makes it of
 read_hello : (List ℕ → ℕ → ℕ → Frame) → List ℕ → Frame
@@ -156,11 +167,3 @@ none-from_rising at before (tag ∷ tags) rising =
 -- no tag is below the one before it exactly where they rise
 pub order_by_sorting : (before : List ℕ) (tags : List (List ℕ)) → (first_below before tags ≡ None) ↔ IsSorted (slice_cmp nat_cmp) (before ∷ tags)
 order_by_sorting before tags = (rising-from_none 0 before tags, none-from_rising 0 before tags)
-
--- tags that are cut apart and joined again
-pub concat-tags_of : (n width : ℕ) (bytes : List ℕ) → length bytes ≡ n * width → concat (tags_of n width bytes) ≡ bytes
-concat-tags_of zero width [] long = refl
-concat-tags_of zero width (byte ∷ bytes) long = absurd (omega arith)
-concat-tags_of (suc n) width bytes long =
-    let more : suc n * width ≡ width + n * width = omega arith in
-    ap (λ (rest : List ℕ). take width bytes ++ rest) (concat-tags_of n width (drop width bytes) (omega (arith, long, more, length-drop width bytes))) ∙ take-append-drop width bytes

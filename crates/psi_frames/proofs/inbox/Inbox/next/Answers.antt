@@ -1,10 +1,14 @@
-use Rattle.std.proofs.Common.{◌≡◌, ◌≤◌, ◌∙◌, ℕ, ◌+◌, List, [], length, take, None, Option, refl, ap, ap₂, sym, subst, arith}
+use Rattle.std.proofs.Common.{◌≡◌, ◌≤◌, ◌∙◌, ℕ, ◌+◌, List, [], length, take, None, Some, Option, refl, ap, ap₂, sym, subst, arith}
 use Rattle.std.proofs.lemmas.List.{length-take-le}
 use Rattle.psi_frames.specs.declared.reasons.BadFrame.{BadFrame}
 use Rattle.psi_frames.specs.Boxes.{InboxState, with_lent}
 use Rattle.psi_frames.specs.Expected.{IsWhole, seen, frame_length, wrong}
-use Rattle.psi_frames.proofs.Received.{none_left}
 use Rattle.psi_frames.proofs.inbox.Inbox.next.Goals as goal
+
+-- an option that is no Some is None
+none_left : {A : Type 0} (o : Option A) → ((x : A) → o ≡ Some x → ⊥) → o ≡ None
+none_left None h = refl
+none_left (Some x) h = absurd (h x refl)
 
 pub returns : goal.returns
 returns c =
