@@ -27,6 +27,13 @@ fn wrong_padding(rows: u32, column: &[u8]) -> Option<Reason>
     None
 }
 
+// Whether a tag is below another, compared from the first byte on.
+fn is_below(tag: &[u8], other: &[u8]) -> bool
+    ensures { result ≡ spec.is_below tag.now other.now }
+{
+    tag.cmp(other).is_lt()
+}
+
 // The place of the first of so many tags that is below the tag before it; `floor` is before the first.
 fn first_below(floor: &[u8], tags: &[u8], count: u16, width: usize) -> Option<u16>
     requires { length tags.now ≡ count * width }
@@ -36,7 +43,7 @@ fn first_below(floor: &[u8], tags: &[u8], count: u16, width: usize) -> Option<u1
     let mut rest = tags;
     for at in 0..count {
         let (tag, later) = rest.split_at(width);
-        if tag.cmp(before).is_lt() {
+        if is_below(tag, before) {
             return Some(at);
         }
         before = tag;

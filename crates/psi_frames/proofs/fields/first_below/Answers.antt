@@ -1,5 +1,4 @@
 use Rattle.std.proofs.Common.{◌∙◌, ◌<◌, ◌≤◌, ◌≡◌, ◌-◌, ◌*◌, ℕ, true, false, sym, ap, arith}
-use Rattle.std.specs.Ordering.{is_lt}
 use Rattle.psi_spec.specs.Frames.{is_below}
 use Rattle.psi_frames.proofs.Rising.{long_more, first_start, first_here, first_later, first_end}
 use Rattle.psi_frames.proofs.fields.first_below.Goals as goal
@@ -17,7 +16,7 @@ loop-at-preserved c =
     let width = c.args.width in
     let more : l.at < count = omega arith in
     let long = long_more count l.at width more in
-    let later : is_below c.split_at.result.0.now l.before.now ≡ false = sym (ap is_lt c.cmp.ensures) ∙ sym c.is_lt.ensures ∙ c.if-is_lt.false in
+    let later : is_below c.split_at.result.0.now l.before.now ≡ false = sym c.is_below.ensures ∙ c.if-is_below.false in
     record {
       long = omega (arith, long);
       first =
@@ -25,11 +24,11 @@ loop-at-preserved c =
           ∙ l.invariant.first;
     }
 
-pub returns-then-is_lt : goal.returns-then-is_lt
-returns-then-is_lt c =
+pub returns-then-is_below : goal.returns-then-is_below
+returns-then-is_below c =
     let l = c.loop-at in
     let more : l.at < c.args.count = omega arith in
-    let falls : is_below c.split_at.result.0.now l.before.now ≡ true = sym (ap is_lt c.cmp.ensures) ∙ sym c.is_lt.ensures ∙ c.if-is_lt.true in
+    let falls : is_below c.split_at.result.0.now l.before.now ≡ true = sym c.is_below.ensures ∙ c.if-is_below.true in
     first_here c.args.count l.at c.args.width l.before.now l.rest.now _ more c.split_at.ensures.front falls ∙ l.invariant.first
 
 pub returns : goal.returns
