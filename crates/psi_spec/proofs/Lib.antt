@@ -10,3 +10,4 @@ pub mod Dealing
 pub mod Comparing
 pub mod Printing
 pub mod Crowding
+pub mod Frames

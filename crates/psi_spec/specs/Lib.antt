@@ -7,6 +7,7 @@ pub mod Deals
 pub mod Placement
 pub mod CrowdedLists
 pub mod Meeting
+pub mod Frames
 pub mod Texts
 pub mod Words
 pub mod Laws
