@@ -16,10 +16,11 @@ use thiserror::Error;
 /// Why bytes are no column.
 #[derive(Clone, Copy, Debug, PartialEq, Eq, Error)]
 pub enum BadColumn {
-    /// A column has one bit for each row, eight to a byte. `found` is how many bytes there are.
+    /// The bytes are not as many as hold one bit for each row, eight to a byte. `found` is how many
+    /// there are.
     #[error("a column of {found} bytes")]
     Length { found: u32 },
-    /// The last byte has a bit past the last row. `byte` is that byte.
+    /// A bit past the last row is set. `byte` is the last byte.
     #[error("a column that ends with the byte {byte}")]
     Padding { byte: u8 },
 }

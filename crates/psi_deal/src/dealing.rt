@@ -1,6 +1,6 @@
 // The pair of deals of a seed.
 ghost use Rattle.std.specs.Prelude.{◌≡◌, ℕ, IfOk, None, vec_len};
-ghost use Rattle.psi_spec.specs.Deals.{ArePair, deal_bytes, dealt_receiver, dealt_sender};
+ghost use Rattle.psi_spec.specs.Deals.{ArePair, IsReceiverDeal, IsSenderDeal, deal_bytes, dealt_receiver, dealt_sender};
 ghost use Rattle.psi_deal.specs.BadDeals.{Answers, bad_request};
 
 use crate::arrays::array_at;
@@ -48,6 +48,7 @@ pub fn deal(
       dealt_sender seed.now session tag_length stash,
     ) result }
     ensures pair { IfOk result (λ deals. ArePair deals.0 deals.1) }
+    ensures sizes { IfOk result (λ deals. IsReceiverDeal deals.0 × IsSenderDeal deals.1) }
 {
     if let Some(bad) = judge_lengths(tag_length, stash) {
         return Err(bad);

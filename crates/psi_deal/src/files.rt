@@ -85,20 +85,24 @@ fn seal(mut bytes: Vec<u8>) -> Result<Vec<u8>, AllocError>
     Ok(bytes)
 }
 
-/// The one file of a receiver's deal. Err where memory is wanting.
+/// The one file of a receiver's deal, of 32,848 bytes. Err where memory is wanting.
 #[tactic(auto, unfolding(psi_spec::specs::DealFiles::receiver_bytes))]
 pub fn write_receiver(alloc: Global, deal: &ReceiverDeal) -> Result<Vec<u8>, NoMemory>
-    ensures { IfOk result (λ bytes. bytes.items ≡ receiver_bytes deal.now) }
+    ensures file { IfOk result (λ bytes. bytes.items ≡ receiver_bytes deal.now) }
+    ensures size { IfOk result (λ bytes. length bytes.items ≡ receiver_size) }
+    ensures deal { IsReceiverDeal deal.now }
 {
     let mut bytes = deal.head.write(alloc, Role::Receiver)?;
     add_pairs(&mut bytes, &deal.pairs)?;
     Ok(seal(bytes)?)
 }
 
-/// The one file of a sender's deal. Err where memory is wanting.
+/// The one file of a sender's deal, of 16,528 bytes. Err where memory is wanting.
 #[tactic(auto, unfolding(psi_spec::specs::DealFiles::sender_bytes))]
 pub fn write_sender(alloc: Global, deal: &SenderDeal) -> Result<Vec<u8>, NoMemory>
-    ensures { IfOk result (λ bytes. bytes.items ≡ sender_bytes deal.now) }
+    ensures file { IfOk result (λ bytes. bytes.items ≡ sender_bytes deal.now) }
+    ensures size { IfOk result (λ bytes. length bytes.items ≡ sender_size) }
+    ensures deal { IsSenderDeal deal.now }
 {
     let mut bytes = deal.head.write(alloc, Role::Sender)?;
     bytes.extend_from_slice(&deal.choice.to_bytes())?;
