@@ -3,7 +3,8 @@ use Rattle.std.specs.Prelude.{◌≡◌, ◌+◌, ◌*◌, ◌<◌, ◌≤◌, �
 use Rattle.std.specs.Int.{Width, w8, w16, w32, w64, byte_len, from_be_bytes}
 use Rattle.std.specs.Str.{bytes_eq}
 use Rattle.psi_spec.specs.Limits.{limit_items}
-use Rattle.psi_spec.specs.Columns.{column_bytes, has_padding}
+use Rattle.psi_spec.specs.Columns.{column_bytes}
+use Rattle.psi_spec.specs.Matrices.{has_padding}
 use Rattle.psi_spec.specs.Frames.{Field, Fits, first_wrong, tags_of, first_below, layout}
 use Rattle.psi_spec.specs.Frames as spec
 use Rattle.psi_frames.specs.declared.expect.Expect.{Expect}

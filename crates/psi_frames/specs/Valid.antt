@@ -4,7 +4,8 @@ use Rattle.std.specs.Cmp.Lexicographic.{slice_cmp}
 use Rattle.std.specs.List.Sorted.{IsSorted}
 use Rattle.std.specs.Ordering.{nat_cmp}
 use Rattle.psi_spec.specs.Limits.{limit_items}
-use Rattle.psi_spec.specs.Columns.{column_bytes, has_padding}
+use Rattle.psi_spec.specs.Columns.{column_bytes}
+use Rattle.psi_spec.specs.Matrices.{has_padding}
 use Rattle.psi_spec.specs.Frames.{AreBytes, Fits, layout, tags_of}
 use Rattle.psi_spec.specs.Frames as spec
 use Rattle.psi_frames.specs.declared.expect.Expect.{Expect}

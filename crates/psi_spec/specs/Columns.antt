@@ -1,5 +1,5 @@
--- The key stream of ChaCha20 by the block function of RFC 8439, section 2.3, and the columns that it fills.
-use Rattle.std.specs.Prelude.{ℕ, ◌+◌, ◌/◌, ◌%◌, ◌^◌, ◌==◌, ◌&&◌, Bool, not, List, map, slice_index, slice_set, nat_le, if◌then◌else◌}
+-- The key stream of ChaCha20 by the block function of RFC 8439, section 2.3, the columns that it fills, and their rows.
+use Rattle.std.specs.Prelude.{ℕ, ◌+◌, ◌/◌, ◌%◌, ◌^◌, ◌==◌, List, map, slice_index, slice_set, if◌then◌else◌}
 use Rattle.rand_core.specs.Steps.{fill_via_u32}
 use Rattle.rand_chacha.specs.ChaCha.{key_of, next_word}
 use Rattle.psi_spec.specs.Bits.{bit_of, packed}
@@ -23,10 +23,10 @@ cleared rows bytes =
 unfoldable pub column : List ℕ → ℕ → ℕ → List ℕ
 column seed session rows = cleared rows (key_stream seed session (column_bytes rows))
 
+-- bit j of each column
+abbrev pub bits_at : List (List ℕ) → ℕ → List ℕ
+bits_at columns j = map (λ column. bit_of column j) columns
+
 -- row j of 512 columns: the word whose bit c is bit j of column c
 unfoldable pub row_of : List (List ℕ) → ℕ → List ℕ
-row_of columns j = packed (map (λ column. bit_of column j) columns)
-
--- whether a bit from `rows` on is set in the last byte of a column
-abbrev pub has_padding : ℕ → List ℕ → Bool
-has_padding rows bytes = not (rows % 8 == 0) && nat_le (2 ^ (rows % 8)) (slice_index bytes (rows / 8))
+row_of columns j = packed (bits_at columns j)

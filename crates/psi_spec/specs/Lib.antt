@@ -3,7 +3,10 @@ pub mod Bits
 pub mod Items
 pub mod Formulas
 pub mod Columns
+pub mod Matrices
+pub mod ColumnSets
 pub mod Deals
+pub mod DealFiles
 pub mod Placement
 pub mod CrowdedLists
 pub mod Meeting
