@@ -110,8 +110,11 @@ follows_answers known words taken (reads word limit next) before end h =
     call_answer taken (Reads known before (word_at words word) limit) (read_status word) before end (λ bytes after. Follows known words taken (next bytes) after end)
     (λ s. IsAnswered known words (reads word limit next) before s) (inl tt)
     (λ why after was. inl (unread known (word_at words word) word limit before why after was))
-    (λ bytes after was more. inr (bytes, record { file = was.1; given = was.2; short = was.0 },
-      follows_answers known words taken (next bytes) before end (subst (λ (o : Outside). Follows known words taken (next bytes) o end) was.3 more))) h
+    (λ bytes after was more. inr (
+      bytes,
+      record { file = was.1; given = was.2; short = was.0 },
+      follows_answers known words taken (next bytes) before end (subst (λ (o : Outside). Follows known words taken (next bytes) o end) was.3 more),
+    )) h
 follows_answers known words taken (refuses verdict) before end h = refusal_answers taken verdict before end h
 follows_answers known words taken (places word set next) before end h =
     place_answers taken word set before end (λ slots later. Follows known words taken (next slots) before later)
@@ -124,6 +127,10 @@ follows_answers known words taken (opens next) before end h =
 follows_answers known words taken (talks d next) before end h =
     call_answer taken (Talks known d before) talk_status before end (λ bytes after. Follows known words true (next bytes) after end)
     (λ s. IsAnswered known words (talks d next) before s) (inl tt) (λ why after was. inl (untalked known d before why after was))
-    (λ bytes after was more. inr (bytes, was.0, was.1,
-      follows_answers known words true (next bytes) (talked before (d.owes bytes) bytes) end (subst (λ (o : Outside). Follows known words true (next bytes) o end) was.2 more))) h
+    (λ bytes after was more. inr (
+      bytes,
+      was.0,
+      was.1,
+      follows_answers known words true (next bytes) (talked before (d.owes bytes) bytes) end (subst (λ (o : Outside). Follows known words true (next bytes) o end) was.2 more),
+    )) h
 follows_answers known words taken (ends wire effects) before end h = does_answer words taken wire effects before end h

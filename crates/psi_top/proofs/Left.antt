@@ -93,8 +93,11 @@ pub follows_leaves : (known : Known) (words : List (List ℕ)) (taken : Bool) (t
 unfolding Follows
 follows_leaves known words taken (reads word limit next) before end done h =
     call_left taken (Reads known before (word_at words word) limit) (read_status word) before end (λ bytes after. Follows known words taken (next bytes) after end) _ done (read_not_done word)
-    (λ bytes after was more. (bytes, record { file = was.1; given = was.2; short = was.0 },
-      follows_leaves known words taken (next bytes) before end done (subst (λ (o : Outside). Follows known words taken (next bytes) o end) was.3 more))) h
+    (λ bytes after was more. (
+      bytes,
+      record { file = was.1; given = was.2; short = was.0 },
+      follows_leaves known words taken (next bytes) before end done (subst (λ (o : Outside). Follows known words taken (next bytes) o end) was.3 more),
+    )) h
 follows_leaves known words taken (refuses why) before end done h = absurd (refusal_left taken why before end done h)
 follows_leaves known words taken (places word set next) before end done h =
     place_left known words taken word set next before end (λ slots later. Follows known words taken (next slots) before later) done
@@ -104,6 +107,10 @@ follows_leaves known words taken (opens next) before end done h =
     (λ x after was more. follows_leaves known words taken next (record before { ready = true }) end done (subst (λ (o : Outside). Follows known words taken next o end) was more)) h
 follows_leaves known words taken (talks d next) before end done h =
     call_left taken (Talks known d before) talk_status before end (λ bytes after. Follows known words true (next bytes) after end) _ done talk_not_done
-    (λ bytes after was more. (bytes, was.0, was.1,
-      follows_leaves known words true (next bytes) (talked before (d.owes bytes) bytes) end done (subst (λ (o : Outside). Follows known words true (next bytes) o end) was.2 more))) h
+    (λ bytes after was more. (
+      bytes,
+      was.0,
+      was.1,
+      follows_leaves known words true (next bytes) (talked before (d.owes bytes) bytes) end done (subst (λ (o : Outside). Follows known words true (next bytes) o end) was.2 more),
+    )) h
 follows_leaves known words taken (ends wire effects) before end done h = does_left words taken wire effects before end done h

@@ -18,11 +18,11 @@ most_local = 4
 -- the pair of deals that the words of `local` name by their seed, session and tag length
 abbrev pub local_receiver : List (List ℕ) → ReceiverDeal
 local_receiver words =
-    dealt_receiver (seed_of (word_at words 3)) (number_of (word_at words 4)) (number_of (word_at words 5))
+    dealt_receiver (seed_of (word_at words 3)) (number_of (word_at words 4)) (number_of (word_at words 5)) usual_stash
 
 abbrev pub local_sender : List (List ℕ) → SenderDeal
 local_sender words =
-    dealt_sender (seed_of (word_at words 3)) (number_of (word_at words 4)) (number_of (word_at words 5))
+    dealt_sender (seed_of (word_at words 3)) (number_of (word_at words 4)) (number_of (word_at words 5)) usual_stash
 
 -- the slots of the receiver's items: item i stands at row bins + i with index 0
 abbrev pub local_slots : List (List ℕ) → List Slot

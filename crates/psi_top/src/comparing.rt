@@ -5,8 +5,9 @@ ghost use Rattle.psi_spec.specs.Texts.{lines_text};
 ghost use Rattle.psi_top.specs.Comparing.{IsReady, after_code, after_items, comparison_at, comparisons_from, met_items};
 
 use crate::dealing::Dealt;
+use psi_bits::Word512;
 use psi_items::{Items, digest};
-use psi_oprf::{Tag, Word512, code, own_tag, peer_tag};
+use psi_oprf::{Tag, code, own_tag, peer_tag};
 use std::alloc::{AllocError, Global};
 
 /// An item of the receiver at its row.
