@@ -98,9 +98,19 @@ local_forms = record {
   optional = [];
 }
 
+-- the forms of `deal`: the seed, the session, the sizes, the receiver's file and the sender's file
+abbrev pub deal_forms : Forms
+deal_forms = record {
+  needed = alone is_seed ∷ alone is_session ∷ alone are_sizes ∷ alone is_name ∷ is_output 4 5 ∷ [];
+  optional = [];
+}
+
 -- the forms of the words after a command's name
 abbrev pub forms_of : List ℕ → Option Forms
-forms_of name = if bytes_eq name (codes "local") then Some local_forms else None
+forms_of name =
+    if bytes_eq name (codes "local") then Some local_forms
+    else if bytes_eq name (codes "deal") then Some deal_forms
+    else None
 
 -- the least place from `at` on whose word is out of form or one too many, where each may be missing
 abbrev pub bad_optional : List Form → List (List ℕ) → ℕ → Option ℕ

@@ -1,11 +1,14 @@
 pub mod Answered
 pub mod Compared
 pub mod Counted
+pub mod DealLaws
+pub mod DealWords
 pub mod Forms
 pub mod Laws
 pub mod Left
 pub mod LocalLaws
 pub mod LocalWords
+pub mod NamedWords
 pub mod Placed
 pub mod Rows
 pub mod Shown

@@ -10,6 +10,7 @@ use Rattle.psi_top.specs.Comparing.{IsDealt, IsReady}
 use Rattle.psi_top.specs.Form.{command_of}
 use Rattle.psi_top.specs.declared.dealing.Dealt.{Dealt}
 use Rattle.psi_top.specs.declared.form.Command.TheVariants.{Local}
+use Rattle.psi_top.proofs.NamedWords.{forms_fit}
 use Rattle.psi_top.proofs.WordValues.{both_true}
 
 -- the first form is met, and the others are
@@ -31,23 +32,17 @@ pub record IsLocal (words : List (List ℕ)) : Type 0 where
   pub tag_length : is_tag_length (word_at words 5) ≡ true
 
 pub local_words : (words : List (List ℕ)) → bad_word words ≡ None → command_of words ≡ Some Local → IsLocal words
-local_words words fit named = by_name (bytes_eq (word_at words 0) (codes "local")) fit named
-  where
-    by_name : (b : Bool)
-        → option_map_or (λ forms. bad_from forms.needed forms.optional words 1) (if b then Some local_forms else None) (Some 0) ≡ None
-        → (if b then Some Local else None) ≡ Some Local → IsLocal words
-    by_name false fit named = cc named
-    by_name true fit named =
-        let name = alone is_name in
-        let seed = alone is_seed in
-        let session = alone is_session in
-        let tag_length = alone is_tag_length in
-        let first = bad_from-none name (name ∷ seed ∷ session ∷ tag_length ∷ []) [] words 1 fit in
-        let second = bad_from-none name (seed ∷ session ∷ tag_length ∷ []) [] words 2 first.1 in
-        let third = bad_from-none seed (session ∷ tag_length ∷ []) [] words 3 second.1 in
-        let fourth = bad_from-none session (tag_length ∷ []) [] words 4 third.1 in
-        let fifth = bad_from-none tag_length [] [] words 5 fourth.1 in
-        record { seed = third.0; session = fourth.0; tag_length = fifth.0 }
+local_words words fit named =
+    let name = alone is_name in
+    let seed = alone is_seed in
+    let session = alone is_session in
+    let tag_length = alone is_tag_length in
+    let first = bad_from-none name (name ∷ seed ∷ session ∷ tag_length ∷ []) [] words 1 (forms_fit words Local fit named) in
+    let second = bad_from-none name (seed ∷ session ∷ tag_length ∷ []) [] words 2 first.1 in
+    let third = bad_from-none seed (session ∷ tag_length ∷ []) [] words 3 second.1 in
+    let fourth = bad_from-none session (tag_length ∷ []) [] words 4 third.1 in
+    let fifth = bad_from-none tag_length [] [] words 5 fourth.1 in
+    record { seed = third.0; session = fourth.0; tag_length = fifth.0 }
 
 -- a deal of such a tag length is ready
 pub ready_of : {E : Type 0} (seed : List ℕ) (session tag_length : ℕ) (r : Result Dealt E) → 1 ≤ tag_length → tag_length ≤ 16 → IfOk r (IsDealt seed session tag_length) → IfOk r IsReady

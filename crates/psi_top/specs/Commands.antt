@@ -2,16 +2,18 @@
 use Rattle.std.specs.Prelude.{◌≡◌, ℕ, List, Option, Some, None}
 use Rattle.psi_spec.specs.Words.{bad_word}
 use Rattle.psi_base.specs.Outside.{Known, Outside}
+use Rattle.psi_top.specs.Deal.{deal_tree}
 use Rattle.psi_top.specs.Form.{command_of}
 use Rattle.psi_top.specs.Local.{local_tree}
 use Rattle.psi_top.specs.Tree.{Tree, End, stopped}
 use Rattle.psi_top.specs.Walk.{Runs}
 use Rattle.psi_top.specs.declared.form.Command.{Command}
-use Rattle.psi_top.specs.declared.form.Command.TheVariants.{Local}
+use Rattle.psi_top.specs.declared.form.Command.TheVariants.{Deal, Local}
 use Rattle.psi_top.specs.declared.status.Status.TheVariants.{BadWords}
 
 -- the steps of a command with these words
 abbrev pub tree_of : Command → List (List ℕ) → Tree
+tree_of Deal = deal_tree
 tree_of Local = local_tree
 
 -- what a run may answer, by the bad place of its words and the command that they name

@@ -1,5 +1,6 @@
 pub mod Commands
 pub mod Comparing
+pub mod Deal
 pub mod Dealing
 pub mod Dialogue
 pub mod Due

@@ -2,10 +2,12 @@
 ghost use Rattle.std.specs.Prelude.{[]};
 ghost use Rattle.psi_spec.specs.Words.{bad_word};
 ghost use Rattle.psi_top.specs.Commands.{Answers};
+ghost use Rattle.psi_top.specs.Deal.{DealWrites};
 ghost use Rattle.psi_top.specs.LocalPromises.{IsOfLocal, LocalShows};
 ghost use Rattle.psi_top.specs.Promises.{Completes, CountsBy, DoneLeaves, IsBadWords, IsDue, IsOfCommand, OnTold, RunsThrough, StandsAt};
 ghost use Rattle.psi_top.specs.Tree.{ended};
 
+use crate::deal::deal_command;
 use crate::form::{Command, bad_word, named_command};
 use crate::local::local_command;
 use crate::status::{Outcome, Status};
@@ -22,6 +24,7 @@ fn answer<W: World>(alloc: Global, words: &Words, world: &mut W) -> Outcome
         };
     }
     match named_command(words) {
+        Some(Command::Deal) => deal_command(alloc, words, world),
         Some(Command::Local) => local_command(alloc, words, world),
         None => Outcome {
             status: Status::BadWords { at: 0 },
@@ -60,6 +63,9 @@ pub fn run<W: World>(alloc: Global, words: &Words, world: &mut W) -> Outcome
 
     // What a run that is done read and left, in every world.
     ensures done { DoneLeaves W.known words.now (W.outside world.old) (ended result (W.outside world.new)) }
+
+    // `deal` writes the two files of a pair of deals, and changes nothing else.
+    ensures dealt { DealWrites words.now (W.outside world.old) (ended result (W.outside world.new)) }
 
     // What `local` may answer, in its own words: its files are judged in order, and then the size of the set.
     ensures local { IsOfLocal W.known words.now (W.outside world.old) result.status }

@@ -9,6 +9,8 @@ use psi_base::Words;
 /// The commands.
 #[derive(Clone, Copy, Debug, PartialEq, Eq)]
 pub enum Command {
+    /// The two deal files of a seed.
+    Deal,
     /// Both ends of a session in one run.
     Local,
 }
@@ -50,6 +52,16 @@ impl Command {
         ensures few { length result.needed.now + length result.optional.now ≤ 8 }
     {
         match self {
+            Command::Deal => CommandForms {
+                needed: &[
+                    Form::Seed,
+                    Form::Session,
+                    Form::Sizes,
+                    Form::Name,
+                    Form::Output { from: 4, to: 5 },
+                ],
+                optional: &[],
+            },
             Command::Local => CommandForms {
                 needed: &[
                     Form::Name,
@@ -111,8 +123,11 @@ pub fn word_at<'a>(words: &'a Words, at: usize) -> &'a str
 pub fn named_command(words: &Words) -> Option<Command>
     ensures { result ≡ command_of words.now }
 {
-    if word_at(words, 0) == "local" {
+    let name = word_at(words, 0);
+    if name == "local" {
         Some(Command::Local)
+    } else if name == "deal" {
+        Some(Command::Deal)
     } else {
         None
     }

@@ -5,7 +5,7 @@ ghost use Rattle.psi_top.specs.Texts.{number_of_status};
 ghost use Rattle.psi_top.specs.Tree.{end_of, ended};
 ghost use Rattle.psi_top.specs.declared.status.Status.TheVariants as status;
 
-use psi_base::Places;
+use psi_base::{NoMemory, Places};
 use psi_frames::BadFrame;
 use psi_items::BadItems;
 use std::alloc::AllocError;
@@ -71,6 +71,14 @@ impl From<AllocError> for Status {
     ghost from_gives = { λ _ why. why ≡ status.NoMemory };
 
     fn from(_: AllocError) -> Status {
+        Status::NoMemory
+    }
+}
+
+impl From<NoMemory> for Status {
+    ghost from_gives = { λ _ why. why ≡ status.NoMemory };
+
+    fn from(_: NoMemory) -> Status {
         Status::NoMemory
     }
 }

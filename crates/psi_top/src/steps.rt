@@ -3,7 +3,7 @@ ghost use Rattle.std.specs.Prelude.{◌≡◌, ◌≤◌, Bool, List, ℕ, IfOk,
 ghost use Rattle.psi_spec.specs.Limits.{file_limit};
 ghost use Rattle.psi_base.specs.Outside.{as_list};
 ghost use Rattle.psi_top.specs.Files.{items_in, reads_items};
-ghost use Rattle.psi_top.specs.Tree.{says, reads};
+ghost use Rattle.psi_top.specs.Tree.{puts, reads, says};
 ghost use Rattle.psi_top.specs.Walk.{Makes, Settles, Steps};
 
 use crate::form::word_at;
@@ -20,7 +20,8 @@ fn read_bytes<W: World>(
     limit: u32,
     world: &mut W,
 ) -> Result<Vec<u8>, Status>
-    ensures steps { Steps W.known words.now (reads word limit) (W.outside world.old) (as_list result) (W.outside world.new) }
+    ensures steps { Steps W.known words.now (reads word limit) (W.outside world.old) (as_list result)
+        (W.outside world.new) }
     ensures short { IfOk (as_list result) (λ bytes. length bytes ≤ limit) }
 {
     match world.read_file(alloc, word_at(words, usize::from(word)), limit) {
@@ -67,6 +68,24 @@ pub fn print_text<W: World>(text: &[u8], world: &mut W) -> Result<(), Status>
     match print_all(world, text) {
         Ok(()) => Ok(()),
         Err(Fault::Failed) => Err(Status::PrintFault),
+        Err(Fault::NoMemory) => Err(Status::NoMemory),
+    }
+}
+
+/// Writes the file that the word at this place names.
+pub fn write_word<W: World>(
+    words: &Words,
+    word: u8,
+    bytes: &[u8],
+    world: &mut W,
+) -> Result<(), Status>
+    ensures { (taken : Bool) →
+        Makes W.known words.now taken (puts word bytes.now) (W.outside world.old) result
+        (W.outside world.new) }
+{
+    match world.write_file(word_at(words, usize::from(word)), bytes) {
+        Ok(()) => Ok(()),
+        Err(Fault::Failed) => Err(Status::FileFault { word }),
         Err(Fault::NoMemory) => Err(Status::NoMemory),
     }
 }

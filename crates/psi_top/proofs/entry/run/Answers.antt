@@ -1,5 +1,6 @@
 use Rattle.psi_top.specs.Tree.{ended}
 use Rattle.psi_top.proofs.Laws.{answers_bad_words, answers_complete, answers_counted, answers_done, answers_exact, answers_of_command, answers_stand, answers_through}
+use Rattle.psi_top.proofs.DealLaws.{answers_dealt}
 use Rattle.psi_top.proofs.LocalLaws.{answers_local, answers_shown}
 use Rattle.psi_top.proofs.entry.run.Goals as goal
 
@@ -34,6 +35,10 @@ returns-clause-stands g c =
 pub returns-clause-done : goal.returns-clause-done
 returns-clause-done g c =
     answers_done g.W.World.known c.args.words.now (g.W.World.outside c.args.world.now) (ended c.answer.result (g.W.World.outside c.answer.new.world)) c.answer.ensures
+
+pub returns-clause-dealt : goal.returns-clause-dealt
+returns-clause-dealt g c =
+    answers_dealt g.W.World.known c.args.words.now (g.W.World.outside c.args.world.now) (ended c.answer.result (g.W.World.outside c.answer.new.world)) c.answer.ensures
 
 pub returns-clause-local : goal.returns-clause-local
 returns-clause-local g c =
