@@ -10,8 +10,9 @@ use psi_base::{Failed, Fault, ReadFault, Side, World};
 use std::alloc::Global;
 use std::fs;
 use std::io::{self, Read, Write};
-use std::net::{Net, OpenListener, TcpListener, TcpStream};
+use std::net::{Net, OpenListener, OpenStream, Shutdown, TcpListener, TcpStream};
 use std::rt::Files;
+use std::time::Duration;
 
 /// The files of the system, standard output and one TCP stream, over a runtime. It tells no content, and
 /// counts what went wrong.
@@ -56,6 +57,20 @@ fn read_whole<F: Read + Drop>(alloc: Global, reader: F, max: u32) -> Result<Vec<
     Ok(bytes)
 }
 
+// The most reads of what a peer sends after its session: of the longest stream, in pieces of a usual packet.
+const LAST_READS: u32 = 65_536;
+
+// Takes what a reader has left, up to so many pieces.
+fn drop_rest<F: Read>(reader: &mut F) {
+    let mut buffer = [0; 4096];
+    for _ in 0..LAST_READS {
+        match reader.read(&mut buffer) {
+            Ok(0) | Err(_) => return,
+            Ok(_) => {}
+        }
+    }
+}
+
 impl<R: Files + Print + Net + Drop> RealWorld<R> {
     ghost use Rattle.psi_cli.specs.RealWorld.{outside_of};
 
@@ -86,6 +101,21 @@ impl<R: Files + Print + Net + Drop> RealWorld<R> {
             print_faults: 0,
             ends: 0,
             refusals: 0,
+        }
+    }
+
+    /// Ends the link, if there is one. The peer is told that no more is sent, and what it still sends is taken
+    /// and dropped until it ends too, fails or is silent for a second: a link that is closed with bytes unread
+    /// is reset, which may take back what was sent before.
+    pub fn finish(&mut self)
+        ensures { outside_of self.new ≡ outside_of self.old }
+    {
+        if let Some(stream) = self.stream.as_mut() {
+            let told = stream.shutdown(Shutdown::Write);
+            let timed = stream.set_read_timeout(Some(Duration::from_secs(1)));
+            if told.is_ok() && timed.is_ok() {
+                drop_rest(stream);
+            }
         }
     }
 

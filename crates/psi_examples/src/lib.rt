@@ -2,6 +2,8 @@
 #![tactic(auto)]
 
 #[cfg(test)]
+mod dealing;
+#[cfg(test)]
 mod fault_lines;
 #[cfg(test)]
 mod meetings;
