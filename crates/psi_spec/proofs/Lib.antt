@@ -9,3 +9,4 @@ pub mod KeyStream
 pub mod Dealing
 pub mod Comparing
 pub mod Printing
+pub mod Crowding

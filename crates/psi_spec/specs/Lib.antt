@@ -5,6 +5,7 @@ pub mod Formulas
 pub mod Columns
 pub mod Deals
 pub mod Placement
+pub mod CrowdedLists
 pub mod Meeting
 pub mod Texts
 pub mod Words
