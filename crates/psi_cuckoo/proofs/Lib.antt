@@ -2,3 +2,4 @@ pub mod Rows
 pub mod Paths
 pub mod Reached
 pub mod Placed
+pub mod Judging

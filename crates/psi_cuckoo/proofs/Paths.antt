@@ -172,16 +172,20 @@ module _ (bins : ℕ) (candidates : List (List ℕ)) (slots : List Slot) (occupa
   visit_extends adds = ⊎_elim
       (λ known. subst (Extends old.visits.items) (sym known.1) (extends_same old.visits.items))
       (λ fresh. subst (Extends old.visits.items) (sym fresh.1) (record {
-      longer = omega (arith, length_push old.visits.items visit);
-      same = λ k l. visit_before old.visits.items visit k l;
+        longer = omega (arith, length_push old.visits.items visit);
+        same = λ k l. visit_before old.visits.items visit k l;
       }))
       adds
 
   pub visit_reaches : AddsVisit old new visit → (row : ℕ) → occupant_at occupants row ≡ Some visit.item → IsReached occupants new.visits.items row
-  visit_reaches adds row stands = (visit.item, stands, ⊎_elim
-      (λ known. subst (λ (vs : List Visit). IsVisited vs visit.item) (sym known.1) known.0)
-      (λ fresh. subst (λ (vs : List Visit). IsVisited vs visit.item) (sym fresh.1) (length old.visits.items, omega (arith, length_push old.visits.items visit), ap (λ (v : Visit). v.item) (visit_last old.visits.items visit)))
-      adds)
+  visit_reaches adds row stands = (
+    visit.item,
+    stands,
+    ⊎_elim
+        (λ known. subst (λ (vs : List Visit). IsVisited vs visit.item) (sym known.1) known.0)
+        (λ fresh. subst (λ (vs : List Visit). IsVisited vs visit.item) (sym fresh.1) (length old.visits.items, omega (arith, length_push old.visits.items visit), ap (λ (v : Visit). v.item) (visit_last old.visits.items visit)))
+        adds,
+  )
 
 -- what is read from the rows
 pub occupant_read : (occupants : List (Option ℕ)) (row : ℕ) (found : Option ℕ) → found ≡ get_or occupants row found → row < length occupants → occupant_at occupants row ≡ found

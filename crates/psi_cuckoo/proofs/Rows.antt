@@ -51,24 +51,24 @@ seated_after_move stash bins candidates slots occupants item slot t l may free =
           (λ ne. let at : slot_at (set slots item slot) i ≡ slot_at slots i = slot_other slots item slot i ne in rw at (subst (λ (n : ℕ). (slot_at slots i).row < n) (sym (length-moved occupants old slot.row item)) (t.inside i (omega (arith, long)))))
           (cases_eq i item);
       standing = record {
-      held = λ i m. ⊎_elim
-          (λ e. let at : slot_at (set slots item slot) i ≡ slot = ap (slot_at (set slots item slot)) e ∙ slot_same slots item slot l in rw at (moved_new occupants old slot.row item free.0 ∙ ap (λ (k : ℕ). Some k) (sym e)))
-          (λ ne. let at : slot_at (set slots item slot) i ≡ slot_at slots i = slot_other slots item slot i ne in
-          let stands = t.standing.held i (omega (arith, long)) in
-          rw at (moved_other occupants old slot.row item (slot_at slots i).row
-          (λ q. ne (same_Some i item (sym stands ∙ (ap (occupant_at occupants) q ∙ t.standing.held item l))))
-          (λ q. none-some i (sym free.1 ∙ (ap (occupant_at occupants) (sym q) ∙ stands))) ∙ stands))
-          (cases_eq i item);
-      holds = λ row i h. ⊎_elim
-          (λ e. let same : item ≡ i = same_Some item i (sym (moved_new occupants old slot.row item free.0) ∙ (ap (occupant_at (moved occupants old slot.row item)) (sym e) ∙ h)) in
-          (subst (λ (k : ℕ). k < length (set slots item slot)) same (omega (arith, long)), ap (λ (k : ℕ). (slot_at (set slots item slot) k).row) (sym same) ∙ (ap (λ (s : Slot). s.row) (slot_same slots item slot l) ∙ sym e)))
-          (λ ne. ⊎_elim
-          (λ e. absurd (none-some i (sym (moved_old occupants old slot.row item (t.inside item l) apart) ∙ (ap (occupant_at (moved occupants old slot.row item)) (sym e) ∙ h))))
-          (λ ne2. let was = t.standing.holds row i (sym (moved_other occupants old slot.row item row ne2 ne) ∙ h) in
-          let other : i ≢ item = λ q. ne2 (sym was.1 ∙ ap (λ (k : ℕ). (slot_at slots k).row) q) in
-          (omega (arith, long, was.0), ap (λ (s : Slot). s.row) (slot_other slots item slot i other) ∙ was.1))
-          (cases_eq row old))
-          (cases_eq row slot.row);
+        held = λ i m. ⊎_elim
+            (λ e. let at : slot_at (set slots item slot) i ≡ slot = ap (slot_at (set slots item slot)) e ∙ slot_same slots item slot l in rw at (moved_new occupants old slot.row item free.0 ∙ ap (λ (k : ℕ). Some k) (sym e)))
+            (λ ne. let at : slot_at (set slots item slot) i ≡ slot_at slots i = slot_other slots item slot i ne in
+            let stands = t.standing.held i (omega (arith, long)) in
+            rw at (moved_other occupants old slot.row item (slot_at slots i).row
+            (λ q. ne (same_Some i item (sym stands ∙ (ap (occupant_at occupants) q ∙ t.standing.held item l))))
+            (λ q. none-some i (sym free.1 ∙ (ap (occupant_at occupants) (sym q) ∙ stands))) ∙ stands))
+            (cases_eq i item);
+        holds = λ row i h. ⊎_elim
+            (λ e. let same : item ≡ i = same_Some item i (sym (moved_new occupants old slot.row item free.0) ∙ (ap (occupant_at (moved occupants old slot.row item)) (sym e) ∙ h)) in
+            (subst (λ (k : ℕ). k < length (set slots item slot)) same (omega (arith, long)), ap (λ (k : ℕ). (slot_at (set slots item slot) k).row) (sym same) ∙ (ap (λ (s : Slot). s.row) (slot_same slots item slot l) ∙ sym e)))
+            (λ ne. ⊎_elim
+            (λ e. absurd (none-some i (sym (moved_old occupants old slot.row item (t.inside item l) apart) ∙ (ap (occupant_at (moved occupants old slot.row item)) (sym e) ∙ h))))
+            (λ ne2. let was = t.standing.holds row i (sym (moved_other occupants old slot.row item row ne2 ne) ∙ h) in
+            let other : i ≢ item = λ q. ne2 (sym was.1 ∙ ap (λ (k : ℕ). (slot_at slots k).row) q) in
+            (omega (arith, long, was.0), ap (λ (s : Slot). s.row) (slot_other slots item slot i other) ∙ was.1))
+            (cases_eq row old))
+            (cases_eq row slot.row);
       };
     }
 
@@ -99,18 +99,18 @@ seated_after_add stash bins candidates slots occupants slot t may free =
           (λ ne. let l : i < length slots = earlier slots slot i m ne in let at : slot_at (slots ++ slot ∷ []) i ≡ slot_at slots i = slot_before slots slot i l in rw at (omega (arith, long, t.inside i l)))
           (cases_eq i item);
       standing = record {
-      held = λ i m. ⊎_elim
-          (λ e. let at : slot_at (slots ++ slot ∷ []) i ≡ slot = ap (slot_at (slots ++ slot ∷ [])) e ∙ slot_last slots slot in rw at (there ∙ ap (λ (k : ℕ). Some k) (sym e)))
-          (λ ne. let l : i < length slots = earlier slots slot i m ne in
-          let at : slot_at (slots ++ slot ∷ []) i ≡ slot_at slots i = slot_before slots slot i l in
-          rw at (others (slot_at slots i).row (λ q. none-some i (sym free.1 ∙ (ap (occupant_at occupants) (sym q) ∙ t.standing.held i l))) ∙ t.standing.held i l))
-          (cases_eq i item);
-      holds = λ row i h. ⊎_elim
-          (λ e. let same : item ≡ i = same_Some item i (sym there ∙ (ap (occupant_at (set occupants slot.row (Some item))) (sym e) ∙ h)) in
-          (subst (λ (k : ℕ). k < length (slots ++ slot ∷ [])) same (omega (arith, length_push slots slot)), ap (λ (k : ℕ). (slot_at (slots ++ slot ∷ []) k).row) (sym same) ∙ (ap (λ (s : Slot). s.row) (slot_last slots slot) ∙ sym e)))
-          (λ ne. let was = t.standing.holds row i (sym (others row ne) ∙ h) in
-          (omega (arith, length_push slots slot, was.0), ap (λ (s : Slot). s.row) (slot_before slots slot i was.0) ∙ was.1))
-          (cases_eq row slot.row);
+        held = λ i m. ⊎_elim
+            (λ e. let at : slot_at (slots ++ slot ∷ []) i ≡ slot = ap (slot_at (slots ++ slot ∷ [])) e ∙ slot_last slots slot in rw at (there ∙ ap (λ (k : ℕ). Some k) (sym e)))
+            (λ ne. let l : i < length slots = earlier slots slot i m ne in
+            let at : slot_at (slots ++ slot ∷ []) i ≡ slot_at slots i = slot_before slots slot i l in
+            rw at (others (slot_at slots i).row (λ q. none-some i (sym free.1 ∙ (ap (occupant_at occupants) (sym q) ∙ t.standing.held i l))) ∙ t.standing.held i l))
+            (cases_eq i item);
+        holds = λ row i h. ⊎_elim
+            (λ e. let same : item ≡ i = same_Some item i (sym there ∙ (ap (occupant_at (set occupants slot.row (Some item))) (sym e) ∙ h)) in
+            (subst (λ (k : ℕ). k < length (slots ++ slot ∷ [])) same (omega (arith, length_push slots slot)), ap (λ (k : ℕ). (slot_at (slots ++ slot ∷ []) k).row) (sym same) ∙ (ap (λ (s : Slot). s.row) (slot_last slots slot) ∙ sym e)))
+            (λ ne. let was = t.standing.holds row i (sym (others row ne) ∙ h) in
+            (omega (arith, length_push slots slot, was.0), ap (λ (s : Slot). s.row) (slot_before slots slot i was.0) ∙ was.1))
+            (cases_eq row slot.row);
       };
     }
 

@@ -2,7 +2,7 @@
 //! the stash, or a crowded list shows that there is no such placement.
 #![tactic(auto)]
 
-
+mod checking;
 mod errors;
 mod moves;
 mod placement;
@@ -12,7 +12,7 @@ mod seating;
 mod slot;
 mod table;
 
-
+pub use checking::check_placement;
 pub use errors::{BadSlots, NoFit};
 pub use placement::Placement;
 pub use placing::place;

@@ -14,10 +14,8 @@ impl Table {
         requires table { IsTable task.now self.old }
         requires forest { IsForest task.now self.old search.now }
         requires last { path.last < length search.now.visits.items }
-        requires free {
-            LeadsToFree task.now.candidates.now self.old.occupants.items
-                (visit_at search.now.visits.items path.last).item path.index
-        }
+        requires free { LeadsToFree task.now.candidates.now self.old.occupants.items
+            (visit_at search.now.visits.items path.last).item path.index }
         ensures table { IsTable task.now self.new }
         ensures free { IsFree self.new.occupants.items result }
         ensures behind { task.now.bins ≤ result }

@@ -21,9 +21,7 @@ impl Model for Placement {
 
     ghost view = { λ p. map slot_of p.table.slots.items };
 
-    ghost invariant = {
-        λ p. AreOccupants p.table.slots.items p.table.occupants.items × (length p.table.slots.items < 2 ^ 32)
-    };
+    ghost invariant = { λ p. AreOccupants p.table.slots.items p.table.occupants.items × (length p.table.slots.items < 2 ^ 32) };
 }
 
 impl Placement {
@@ -55,9 +53,7 @@ impl Placement {
 
     /// The item that has a row, and None where none has it.
     pub fn item_at(&self, row: u32) -> Option<u32>
-        ensures {
-            (i : ℕ) → (result ≡ Some i) ↔ (option_map (λ slot. slot.row) (slice_get self.now i) ≡ Some row)
-        }
+        ensures { (i : ℕ) → (result ≡ Some i) ↔ (option_map (λ slot. slot.row) (slice_get self.now i) ≡ Some row) }
     {
         let row = row as usize;
         if row < self.table.occupants.len() {

@@ -25,24 +25,14 @@ fn seat_or_refuse(
     requires ready { IsReady task.now table.old }
     requires none { table.old.slots.items ≡ [] }
     requires numbers { length task.now.candidates.now ≤ length search.old.numbers.items }
-    ensures placement {
-        IfOk result (λ crowd. IfNone crowd
-            (IsPlacement task.now.stash task.now.bins task.now.candidates.now (map slot_of table.new.slots.items)))
-    }
+    ensures placement { IfOk result (λ crowd. IfNone crowd
+        (IsPlacement task.now.stash task.now.bins task.now.candidates.now (map slot_of table.new.slots.items))) }
     ensures small { OnOk result (length table.new.slots.items ≤ length task.now.candidates.now) }
-    ensures standing {
-        IfOk result (λ crowd. IfNone crowd (AreOccupants table.new.slots.items table.new.occupants.items))
-    }
-    ensures crowded {
-        IfOk result (λ crowd. IfSome crowd (λ items. IsCrowded task.now.stash task.now.candidates.now items))
-    }
-    ensures touched {
-        IfOk result (λ crowd. IfSome crowd
-            (λ items. length items ≡ touched_by task.now.candidates.now items + (task.now.stash + 1)))
-    }
-    ensures few {
-        IfOk result (λ crowd. IfSome crowd (λ items. length items ≤ length task.now.candidates.now))
-    }
+    ensures standing { IfOk result (λ crowd. IfNone crowd (AreOccupants table.new.slots.items table.new.occupants.items)) }
+    ensures crowded { IfOk result (λ crowd. IfSome crowd (λ items. IsCrowded task.now.stash task.now.candidates.now items)) }
+    ensures touched { IfOk result (λ crowd. IfSome crowd
+        (λ items. length items ≡ touched_by task.now.candidates.now items + (task.now.stash + 1))) }
+    ensures few { IfOk result (λ crowd. IfSome crowd (λ items. length items ≤ length task.now.candidates.now)) }
 {
     if seat_all(task, table, search)? {
         return Ok(None);
@@ -60,12 +50,7 @@ fn seat_or_refuse(
 /// Items are put in one after another. Where all candidates of one are taken, a breadth-first search from the items in
 /// the stash finds a path of moves to a free bin, as for bipartite matching. Where there is none, the items that it
 /// reached are the crowded list, after Hall's theorem.
-pub fn place(
-    alloc: Global,
-    cands: &[[u32; 3]],
-    bins: u32,
-    stash: u8,
-) -> Result<Placement, NoFit>
+pub fn place(alloc: Global, cands: &[[u32; 3]], bins: u32, stash: u8) -> Result<Placement, NoFit>
     requires some_bins { 1 ≤ bins }
     requires few_bins { bins ≤ bins_for limit_items }
     requires few_items { length cands.now ≤ limit_items }

@@ -72,10 +72,8 @@ impl Search {
     pub fn visit_stash(&mut self, task: &Task<'_>, table: &Table) -> Result<(), NoMemory>
         requires task { IsTask task.now }
         requires table { IsTable task.now table.now }
-        requires full {
-            (row : ℕ) → task.now.bins ≤ row → row < task.now.bins + (task.now.stash + 1)
-                → IsSome (occupant_at table.now.occupants.items row)
-        }
+        requires full { (row : ℕ) → task.now.bins ≤ row → row < task.now.bins + (task.now.stash + 1)
+            → IsSome (occupant_at table.now.occupants.items row) }
         requires forest { IsForest task.now table.now self.old }
         ensures forest { OnOk result (IsForest task.now table.now self.new) }
         ensures reached { OnOk result (StashReached task.now table.now self.new) }
@@ -106,13 +104,11 @@ impl Search {
         requires at { at < length self.old.visits.items }
         ensures forest { OnOk result (IsForest task.now table.now self.new) }
         ensures grows { OnOk result (Extends self.old.visits.items self.new.visits.items) }
-        ensures reached {
-            IfOk result (λ free. MatchOption free
-                (AllReached task.now.candidates.now table.now.occupants.items self.new.visits.items
-                    (visit_at self.old.visits.items at).item)
-                (λ index. LeadsToFree task.now.candidates.now table.now.occupants.items
-                    (visit_at self.old.visits.items at).item index))
-        }
+        ensures reached { IfOk result (λ free. MatchOption free
+            (AllReached task.now.candidates.now table.now.occupants.items self.new.visits.items
+            (visit_at self.old.visits.items at).item)
+            (λ index. LeadsToFree task.now.candidates.now table.now.occupants.items
+            (visit_at self.old.visits.items at).item index)) }
     {
         let parent = self.visits[at].item;
         for index in 1..4u8 {
@@ -135,19 +131,15 @@ impl Search {
         requires table { IsTable task.now table.now }
         requires few { length table.now.slots.items ≤ length task.now.candidates.now }
         requires numbers { length task.now.candidates.now ≤ length self.old.numbers.items }
-        requires full {
-            (row : ℕ) → task.now.bins ≤ row → row < task.now.bins + (task.now.stash + 1)
-                → IsSome (occupant_at table.now.occupants.items row)
-        }
+        requires full { (row : ℕ) → task.now.bins ≤ row → row < task.now.bins + (task.now.stash + 1)
+            → IsSome (occupant_at table.now.occupants.items row) }
         ensures forest { OnOk result (IsForest task.now table.now self.new) }
-        ensures found {
-            IfOk result (λ found. MatchOption found
-                (IsClosed (task.now.stash + 1) task.now.bins task.now.candidates.now table.now.occupants.items
-                    self.new.visits.items)
-                (λ path. (path.last < length self.new.visits.items)
-                    × LeadsToFree task.now.candidates.now table.now.occupants.items
-                        (visit_at self.new.visits.items path.last).item path.index))
-        }
+        ensures found { IfOk result (λ found. MatchOption found
+            (IsClosed (task.now.stash + 1) task.now.bins task.now.candidates.now table.now.occupants.items
+            self.new.visits.items)
+            (λ path. (path.last < length self.new.visits.items)
+            × LeadsToFree task.now.candidates.now table.now.occupants.items
+            (visit_at self.new.visits.items path.last).item path.index)) }
     {
         self.visits.clear();
         self.visit_stash(task, table)?;

@@ -18,15 +18,11 @@ pub(crate) fn make_room(
     requires table { IsTable task.now table.old }
     requires few { length table.old.slots.items ≤ length task.now.candidates.now }
     requires numbers { length task.now.candidates.now ≤ length search.old.numbers.items }
-    requires full {
-        (row : ℕ) → task.now.bins ≤ row → row < task.now.bins + (task.now.stash + 1)
-            → IsSome (occupant_at table.old.occupants.items row)
-    }
+    requires full { (row : ℕ) → task.now.bins ≤ row → row < task.now.bins + (task.now.stash + 1)
+        → IsSome (occupant_at table.old.occupants.items row) }
     ensures numbers { OnOk result (length task.now.candidates.now ≤ length search.new.numbers.items) }
     ensures count { length table.new.slots.items ≡ length table.old.slots.items }
-    ensures room {
-        IfOk result (λ done. MatchBool done (IsReady task.now table.new) (IsEnded task.now table.new search.new))
-    }
+    ensures room { IfOk result (λ done. MatchBool done (IsReady task.now table.new) (IsEnded task.now table.new search.new)) }
 {
     let Some(path) = search.find_path(task, table)? else {
         return Ok(false);
@@ -48,9 +44,7 @@ pub(crate) fn seat_next(
     requires numbers { length task.now.candidates.now ≤ length search.old.numbers.items }
     ensures numbers { OnOk result (length task.now.candidates.now ≤ length search.new.numbers.items) }
     ensures count { OnOk result (length table.new.slots.items ≡ length table.old.slots.items + 1) }
-    ensures seated {
-        IfOk result (λ done. MatchBool done (IsReady task.now table.new) (IsEnded task.now table.new search.new))
-    }
+    ensures seated { IfOk result (λ done. MatchBool done (IsReady task.now table.new) (IsEnded task.now table.new search.new)) }
 {
     if let Some(slot) = table.free_candidate(task, table.slots.len() as u32) {
         table.add_item(slot)?;
@@ -75,11 +69,9 @@ pub(crate) fn seat_all(
     requires none { table.old.slots.items ≡ [] }
     requires numbers { length task.now.candidates.now ≤ length search.old.numbers.items }
     ensures count { OnOk result (length table.new.slots.items ≤ length task.now.candidates.now) }
-    ensures seated {
-        IfOk result (λ done. MatchBool done
-            ((length table.new.slots.items ≡ length task.now.candidates.now) × IsReady task.now table.new)
-            (IsEnded task.now table.new search.new))
-    }
+    ensures seated { IfOk result (λ done. MatchBool done
+        ((length table.new.slots.items ≡ length task.now.candidates.now) × IsReady task.now table.new)
+        (IsEnded task.now table.new search.new)) }
 {
     for _item in 0..task.candidates.len() {
         if !seat_next(task, table, search)? {

@@ -53,10 +53,8 @@ impl Table {
         requires few { length self.old.slots.items < 2 ^ 32 }
         requires inside { slot.row < length self.old.occupants.items }
         ensures slots { OnOk result (self.new.slots.items ≡ self.old.slots.items ++ slot ∷ []) }
-        ensures occupants {
-            OnOk result (self.new.occupants.items
-                ≡ slice_set self.old.occupants.items slot.row (Some (length self.old.slots.items)))
-        }
+        ensures occupants { OnOk result (self.new.occupants.items
+            ≡ slice_set self.old.occupants.items slot.row (Some (length self.old.slots.items))) }
     {
         let item = self.slots.len() as u32;
         self.slots.push(slot)?;
@@ -70,11 +68,9 @@ impl Table {
         requires old { (slot_at self.old.slots.items item).row < length self.old.occupants.items }
         requires new { slot.row < length self.old.occupants.items }
         ensures slots { self.new.slots.items ≡ slice_set self.old.slots.items item slot }
-        ensures occupants {
-            self.new.occupants.items
-                ≡ slice_set (slice_set self.old.occupants.items (slot_at self.old.slots.items item).row None)
-                    slot.row (Some item)
-        }
+        ensures occupants { self.new.occupants.items
+            ≡ slice_set (slice_set self.old.occupants.items (slot_at self.old.slots.items item).row None)
+            slot.row (Some item) }
     {
         let old = self.slots[item as usize];
         self.occupants[old.row as usize] = None;
@@ -87,16 +83,12 @@ impl Table {
         requires task { IsTask task.now }
         requires rows { task.now.bins ≤ length self.now.occupants.items }
         requires item { item < length task.now.candidates.now }
-        ensures may {
-            (spare : ℕ) → IfSome result
-                (λ slot. MayHave spare task.now.bins (slice_index_or task.now.candidates.now item []) (slot_of slot))
-        }
+        ensures may { (spare : ℕ) → IfSome result
+            (λ slot. MayHave spare task.now.bins (slice_index_or task.now.candidates.now item []) (slot_of slot)) }
         ensures free { IfSome result (λ slot. IsFree self.now.occupants.items slot.row) }
         ensures bin { IfSome result (λ slot. slot.row < task.now.bins) }
-        ensures full {
-            IfNone result ((index row : ℕ) → Names task.now.candidates.now item index row
-                → IsSome (occupant_at self.now.occupants.items row))
-        }
+        ensures full { IfNone result ((index row : ℕ) → Names task.now.candidates.now item index row
+            → IsSome (occupant_at self.now.occupants.items row)) }
     {
         for index in 1..4u8 {
             let row = task.candidate(item, index);
@@ -114,9 +106,7 @@ impl Table {
         requires waiting { IsFree self.now.occupants.items (task.now.bins + task.now.stash) }
         ensures free { IsFree self.now.occupants.items result }
         ensures behind { task.now.bins ≤ result }
-        ensures full {
-            (row : ℕ) → task.now.bins ≤ row → row < result → IsSome (occupant_at self.now.occupants.items row)
-        }
+        ensures full { (row : ℕ) → task.now.bins ≤ row → row < result → IsSome (occupant_at self.now.occupants.items row) }
     {
         for row in task.bins..task.bins + task.stash {
             if self.occupants[row as usize].is_none() {

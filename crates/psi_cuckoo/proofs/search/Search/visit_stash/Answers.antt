@@ -40,8 +40,8 @@ loop-row-preserved c =
           let led = subst (IsLed bins candidates old.visits.items (length old.visits.items) 0 0) (sym at.1) (inl (refl, c.loop-row.auto.row)) in
           let forest = forest_of_visit bins candidates slots occupants old new visit w.in_ok-visit.ensures c.loop-row.invariant.forest at.0 led in
           let reached = reached_upto bins occupants old.visits.items new.visits.items row c.loop-row.invariant.reached
-              (visit_extends bins candidates slots occupants old new visit w.in_ok-visit.ensures)
-              (visit_reaches bins candidates slots occupants old new visit w.in_ok-visit.ensures row stands) in
+          (visit_extends bins candidates slots occupants old new visit w.in_ok-visit.ensures)
+          (visit_reaches bins candidates slots occupants old new visit w.in_ok-visit.ensures row stands) in
           record {
             forest = subst (λ (s : Search). IsForest task c.args.table.now s) (sym w.self-is) forest;
             reached = subst (λ (s : Search). (r : ℕ) → bins ≤ r → r < row + 1 → IsReached occupants s.visits.items r) (sym w.self-is) reached;

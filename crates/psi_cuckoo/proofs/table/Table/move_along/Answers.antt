@@ -37,8 +37,12 @@ loop-index-preserved c =
       seated = moved_seats (task.stash + 1) task.bins candidates old.slots.items old.occupants.items slot new.slots.items new.occupants.items visit.item so_far.seated placed may free c.move_item.ensures.slots c.move_item.ensures.occupants;
       count = ap length c.move_item.ensures.slots ∙ (length-set old.slots.items visit.item slot ∙ so_far.count);
       within = omega (arith, further.0);
-      free = ((slot_at first visit.item).row, further.1, subst (λ (s : Slot). IsFree new.occupants.items s.row) stood
-          (moved_free (task.stash + 1) task.bins candidates old.slots.items old.occupants.items slot new.slots.items new.occupants.items visit.item so_far.seated placed free c.move_item.ensures.occupants));
+      free = (
+        (slot_at first visit.item).row,
+        further.1,
+        subst (λ (s : Slot). IsFree new.occupants.items s.row) stood
+            (moved_free (task.stash + 1) task.bins candidates old.slots.items old.occupants.items slot new.slots.items new.occupants.items visit.item so_far.seated placed free c.move_item.ensures.occupants),
+      );
       kept = λ k l. others k (omega (arith, further.0)) ∙ so_far.kept k (omega (arith, further.0));
     }
 
