@@ -17,3 +17,6 @@ pub use errors::{BadSlots, NoFit};
 pub use placement::Placement;
 pub use placing::place;
 pub use slot::Slot;
+
+#[cfg(test)]
+mod tests;
