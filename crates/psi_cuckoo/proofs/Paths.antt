@@ -1,9 +1,9 @@
 -- The paths of a search.
 use Rattle.std.proofs.Common.{◌≡◌, ◌≢◌, ◌+◌, ◌-◌, ◌<◌, ◌≤◌, ℕ, List, [], ◌∷◌, ◌++◌, Some, None, length, map, get_or, set, refl, sym, ap, ◌∙◌, subst, arith, ⊎_elim, inl, inr}
-use Rattle.std.specs.Prelude.{nat_eq, Bool, true, false, IsSome, MatchBool}
+use Rattle.std.specs.Prelude.{nat_eq}
 use Rattle.std.specs.List.{IsDistinct, range_with_len}
 use Rattle.std.specs.Cmp.{unsigned_Decides}
-use Rattle.std.proofs.lemmas.Bool.{cases_eq, eqb-true, false_from_ne_true, true≢false}
+use Rattle.std.proofs.lemmas.Bool.{cases_eq, eqb-true, false_from_ne_true}
 use Rattle.std.proofs.lemmas.Cmp.{nat_eq_equiv}
 use Rattle.std.proofs.lemmas.List.{length-set, get_or-set_same, get_or-set_other, get_or_push, get_or_append_left, get_or_default, length_push, length-map, get_or-map}
 use Rattle.std.proofs.lemmas.List.FromFn.{length-range_with_len, get_or-range_with_len}
@@ -12,9 +12,9 @@ use Rattle.std.proofs.lemmas.Map.Made.{length-le_from_is_member, is_member-Decid
 use Rattle.std.specs.declared.option.Option.{Option}
 use Rattle.std.proofs.lemmas.Option.{get_or_from_slice_get, slice_get-get_or}
 use Rattle.psi_spec.specs.Placement.{MayHave}
-use Rattle.psi_cuckoo.specs.Table.{AreSeated, IsFree, LeadsToFree, Names, no_slot, slot_at, occupant_at}
+use Rattle.psi_cuckoo.specs.Table.{IsFree, LeadsToFree, Names, no_slot, slot_at, occupant_at}
 use Rattle.psi_cuckoo.specs.declared.search.Search.{Search}
-use Rattle.psi_cuckoo.specs.Search.{AddsVisit, AreNumbered, AreTrees, IsLed, no_visit, visit_at, IsVisited, IsReached, Extends, AllReached}
+use Rattle.psi_cuckoo.specs.Search.{AddsVisit, AreTrees, IsLed, no_visit, visit_at, IsVisited, IsReached, Extends, AllReached}
 use Rattle.psi_cuckoo.specs.declared.slot.Slot.{Slot}
 use Rattle.psi_cuckoo.specs.declared.search.Visit.{Visit}
 

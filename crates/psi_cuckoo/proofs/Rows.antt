@@ -5,7 +5,7 @@ use Rattle.std.proofs.lemmas.Bool.{cases_eq}
 use Rattle.std.proofs.lemmas.Option.{same_Some, none-some}
 use Rattle.std.proofs.lemmas.List.{length-set, get_or-set_same, get_or-set_other, get_or_push, get_or_append_left, length_push}
 use Rattle.psi_spec.specs.Placement.{MayHave}
-use Rattle.psi_cuckoo.specs.Table.{AreSeated, AreOccupants, IsFree, slot_at, occupant_at, no_slot, slot_of}
+use Rattle.psi_cuckoo.specs.Table.{AreSeated, IsFree, slot_at, occupant_at, no_slot, slot_of}
 use Rattle.psi_cuckoo.specs.declared.slot.Slot.{Slot}
 
 -- the occupants after item goes from the row old to the row new

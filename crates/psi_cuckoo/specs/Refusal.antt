@@ -1,5 +1,5 @@
 -- Why there is no placement, and what is wrong with slots that are none.
-use Rattle.std.specs.Prelude.{◌≡◌, ◌+◌, ◌-◌, ◌==◌, ◌&&◌, ℕ, Bool, true, false, if◌then◌else◌, List, [], Some, None, length, nat_le, nat_lt, slice_get, slice_index_or, take, ⊤}
+use Rattle.std.specs.Prelude.{◌≡◌, ◌+◌, ◌-◌, ◌==◌, ◌&&◌, ℕ, Bool, false, if◌then◌else◌, List, [], Some, None, length, nat_le, nat_lt, slice_get, slice_index_or, take, ⊤}
 use Rattle.std.specs.List.{filter_map, list_any, range_with_len}
 use Rattle.std.specs.Option.{option_map_or}
 use Rattle.std.specs.declared.option.Option.{Option}

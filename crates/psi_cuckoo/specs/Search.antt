@@ -7,7 +7,7 @@ use Rattle.psi_cuckoo.specs.declared.table.Task.{Task}
 use Rattle.psi_cuckoo.specs.declared.table.Table.{Table}
 use Rattle.psi_cuckoo.specs.declared.search.Visit.{Visit}
 use Rattle.psi_cuckoo.specs.declared.search.Search.{Search}
-use Rattle.psi_cuckoo.specs.Table.{IsTable, IsFree, Names, slot_at, occupant_at}
+use Rattle.psi_cuckoo.specs.Table.{IsTable, Names, slot_at, occupant_at}
 
 abbrev pub no_visit : Visit
 no_visit = record { item = 0; parent = 0; index = 0 }

@@ -1,5 +1,5 @@
 -- Tables: the slots of the items so far, and the item that stands in each row.
-use Rattle.std.specs.Prelude.{◌≡◌, ◌+◌, ◌-◌, ◌<◌, ◌≤◌, ◌^◌, ℕ, List, [], Some, None, length, slice_get, slice_index_or}
+use Rattle.std.specs.Prelude.{◌≡◌, ◌+◌, ◌-◌, ◌<◌, ◌≤◌, ◌^◌, ℕ, List, [], Some, None, IsSome, length, slice_get, slice_index_or}
 use Rattle.std.specs.declared.option.Option.{Option}
 use Rattle.psi_spec.specs.Placement.{MayHave, Slot}
 use Rattle.psi_cuckoo.specs.declared.slot.Slot.{Slot as RowSlot}
@@ -61,6 +61,12 @@ pub record IsTask (task : Task) : Type 0 where
 abbrev pub IsTable : Task → Table → Type 0
 IsTable task table =
     AreSeated (task.stash + 1) task.bins task.candidates.now table.slots.items table.occupants.items
+
+-- an item stands in each row behind the bins
+abbrev pub IsStashFull : Task → Table → Type 0
+IsStashFull task table =
+    (row : ℕ) → task.bins ≤ row → row < task.bins + (task.stash + 1)
+    → IsSome (occupant_at table.occupants.items row)
 
 -- a table in which no item waits
 pub record IsReady (task : Task) (table : Table) : Type 0 where

@@ -35,7 +35,8 @@ fn judge(task: &Task<'_>, table: &Table, slots: &[Slot], item: u32) -> Result<()
     requires seated { AreSeated task.now.stash task.now.bins task.now.candidates.now table.now.slots.items
         table.now.occupants.items }
     ensures right { OnOk result (fault_of task.now.stash task.now.bins task.now.candidates.now slots.now item ≡ None) }
-    ensures wrong { IfErr result (λ e. fault_of task.now.stash task.now.bins task.now.candidates.now slots.now item ≡ Some e) }
+    ensures wrong { IfErr result
+        (λ e. fault_of task.now.stash task.now.bins task.now.candidates.now slots.now item ≡ Some e) }
 {
     let slot = slots[item as usize];
     if slot.index > 3 {

@@ -21,7 +21,8 @@ impl Model for Placement {
 
     ghost view = { λ p. map slot_of p.table.slots.items };
 
-    ghost invariant = { λ p. AreOccupants p.table.slots.items p.table.occupants.items × (length p.table.slots.items < 2 ^ 32) };
+    ghost invariant = { λ p. AreOccupants p.table.slots.items p.table.occupants.items
+        × (length p.table.slots.items < 2 ^ 32) };
 }
 
 impl Placement {

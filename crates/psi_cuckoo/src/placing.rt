@@ -1,10 +1,11 @@
 // A placement of all items, or the items that exclude one.
-ghost use Rattle.std.specs.Prelude.{◌≡◌, ◌<◌, ◌+◌, ◌≤◌, ℕ, [], All, IfErr, IfNone, IfOk, IfSome, OnOk, length, map};
+ghost use Rattle.std.specs.Prelude.{◌≡◌, ◌<◌, ◌+◌, ◌≤◌, ℕ, [], All, IfErr, IfNone, IfOk, IfSome, IsOkUnless, OnOk, length, map};
 ghost use Rattle.psi_spec.specs.Limits.{bins_for, limit_items, stash_limit};
-ghost use Rattle.psi_spec.specs.Placement.{IsPlacement};
+ghost use Rattle.psi_spec.specs.Placement.{HasPlacement, IsPlacement};
 ghost use Rattle.psi_spec.specs.CrowdedLists.{IsCrowded, touched_by};
 ghost use Rattle.psi_cuckoo.specs.Table.{AreOccupants, IsReady, IsTask, slot_of};
 ghost use Rattle.psi_cuckoo.specs.Refusal.{Refuses};
+ghost use Rattle.psi_cuckoo.specs.declared.errors.NoFit.TheVariants as fit;
 
 use crate::errors::NoFit;
 use crate::placement::Placement;
@@ -28,8 +29,10 @@ fn seat_or_refuse(
     ensures placement { IfOk result (λ crowd. IfNone crowd
         (IsPlacement task.now.stash task.now.bins task.now.candidates.now (map slot_of table.new.slots.items))) }
     ensures small { OnOk result (length table.new.slots.items ≤ length task.now.candidates.now) }
-    ensures standing { IfOk result (λ crowd. IfNone crowd (AreOccupants table.new.slots.items table.new.occupants.items)) }
-    ensures crowded { IfOk result (λ crowd. IfSome crowd (λ items. IsCrowded task.now.stash task.now.candidates.now items)) }
+    ensures standing { IfOk result (λ crowd. IfNone crowd
+        (AreOccupants table.new.slots.items table.new.occupants.items)) }
+    ensures crowded { IfOk result (λ crowd. IfSome crowd
+        (λ items. IsCrowded task.now.stash task.now.candidates.now items)) }
     ensures touched { IfOk result (λ crowd. IfSome crowd
         (λ items. length items ≡ touched_by task.now.candidates.now items + (task.now.stash + 1))) }
     ensures few { IfOk result (λ crowd. IfSome crowd (λ items. length items ≤ length task.now.candidates.now)) }
@@ -58,6 +61,9 @@ pub fn place(alloc: Global, cands: &[[u32; 3]], bins: u32, stash: u8) -> Result<
     requires candidates { All (λ rows. All (λ row. row < bins) rows) cands.now }
     ensures placement { IfOk result (IsPlacement stash bins cands.now) }
     ensures refusal { IfErr result (Refuses stash cands.now) }
+
+    // Items that have a placement are not refused.
+    ensures found { HasPlacement stash bins cands.now → IsOkUnless result fit.NoMemory }
 {
     let task = Task {
         candidates: cands,

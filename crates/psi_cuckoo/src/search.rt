@@ -1,6 +1,6 @@
 // A breadth-first search for a free bin.
-ghost use Rattle.std.specs.Prelude.{◌≡◌, ◌<◌, ◌+◌, ◌*◌, ◌≤◌, ℕ, ◌^◌, IsTrue, ◌↔◌, IsSome, IfOk, OnOk, MatchOption, length};
-ghost use Rattle.psi_cuckoo.specs.Table.{IsTask, IsTable, LeadsToFree, occupant_at};
+ghost use Rattle.std.specs.Prelude.{◌≡◌, ◌<◌, ◌+◌, ◌*◌, ◌≤◌, ◌^◌, IsTrue, ◌↔◌, IfOk, OnOk, MatchOption, length};
+ghost use Rattle.psi_cuckoo.specs.Table.{IsStashFull, IsTable, IsTask, LeadsToFree};
 ghost use Rattle.psi_cuckoo.specs.Search.{AddsVisit, AllReached, AreNumbered, AreRising, Extends, IsClosed, IsForest, IsVisited, StashReached, visit_at};
 
 use crate::table::{Table, Task};
@@ -24,11 +24,13 @@ pub(crate) struct Path {
     pub index: u8,
 }
 
-/// A search, with buffers that serve all searches. An item was visited where the visit with the item's number is its
-/// own, so what earlier searches left in the numbers is harmless.
+/// A search, with buffers that serve all searches.
 #[derive(Drop)]
 pub(crate) struct Search {
+    /// The visits in their order.
     pub visits: Vec<Visit>,
+    /// The number of each item's visit. An item was visited where the visit of that number is its own, so what earlier
+    /// searches left here is harmless.
     pub numbers: Vec<usize>,
 }
 
@@ -72,8 +74,7 @@ impl Search {
     pub fn visit_stash(&mut self, task: &Task<'_>, table: &Table) -> Result<(), NoMemory>
         requires task { IsTask task.now }
         requires table { IsTable task.now table.now }
-        requires full { (row : ℕ) → task.now.bins ≤ row → row < task.now.bins + (task.now.stash + 1)
-            → IsSome (occupant_at table.now.occupants.items row) }
+        requires full { IsStashFull task.now table.now }
         requires forest { IsForest task.now table.now self.old }
         ensures forest { OnOk result (IsForest task.now table.now self.new) }
         ensures reached { OnOk result (StashReached task.now table.now self.new) }
@@ -125,14 +126,13 @@ impl Search {
         Ok(None)
     }
 
-    /// A path from the items behind the bins to a free bin, if there is one.
+    /// A shortest path from the items behind the bins to a free bin, if there is one.
     pub fn find_path(&mut self, task: &Task<'_>, table: &Table) -> Result<Option<Path>, NoMemory>
         requires task { IsTask task.now }
         requires table { IsTable task.now table.now }
         requires few { length table.now.slots.items ≤ length task.now.candidates.now }
         requires numbers { length task.now.candidates.now ≤ length self.old.numbers.items }
-        requires full { (row : ℕ) → task.now.bins ≤ row → row < task.now.bins + (task.now.stash + 1)
-            → IsSome (occupant_at table.now.occupants.items row) }
+        requires full { IsStashFull task.now table.now }
         ensures forest { OnOk result (IsForest task.now table.now self.new) }
         ensures found { IfOk result (λ found. MatchOption found
             (IsClosed (task.now.stash + 1) task.now.bins task.now.candidates.now table.now.occupants.items

@@ -1,6 +1,6 @@
 // Items are put in one after another.
-ghost use Rattle.std.specs.Prelude.{◌≡◌, ◌<◌, ◌+◌, ◌≤◌, ℕ, [], IsSome, IfOk, OnOk, MatchBool, length};
-ghost use Rattle.psi_cuckoo.specs.Table.{IsTask, IsTable, IsReady, occupant_at};
+ghost use Rattle.std.specs.Prelude.{◌≡◌, ◌<◌, ◌+◌, ◌≤◌, [], IfOk, OnOk, MatchBool, length};
+ghost use Rattle.psi_cuckoo.specs.Table.{IsReady, IsStashFull, IsTable, IsTask};
 ghost use Rattle.psi_cuckoo.specs.Search.{IsEnded};
 
 use crate::search::Search;
@@ -18,11 +18,11 @@ pub(crate) fn make_room(
     requires table { IsTable task.now table.old }
     requires few { length table.old.slots.items ≤ length task.now.candidates.now }
     requires numbers { length task.now.candidates.now ≤ length search.old.numbers.items }
-    requires full { (row : ℕ) → task.now.bins ≤ row → row < task.now.bins + (task.now.stash + 1)
-        → IsSome (occupant_at table.old.occupants.items row) }
+    requires full { IsStashFull task.now table.old }
     ensures numbers { OnOk result (length task.now.candidates.now ≤ length search.new.numbers.items) }
     ensures count { length table.new.slots.items ≡ length table.old.slots.items }
-    ensures room { IfOk result (λ done. MatchBool done (IsReady task.now table.new) (IsEnded task.now table.new search.new)) }
+    ensures room { IfOk result (λ done. MatchBool done
+        (IsReady task.now table.new) (IsEnded task.now table.new search.new)) }
 {
     let Some(path) = search.find_path(task, table)? else {
         return Ok(false);
@@ -44,7 +44,8 @@ pub(crate) fn seat_next(
     requires numbers { length task.now.candidates.now ≤ length search.old.numbers.items }
     ensures numbers { OnOk result (length task.now.candidates.now ≤ length search.new.numbers.items) }
     ensures count { OnOk result (length table.new.slots.items ≡ length table.old.slots.items + 1) }
-    ensures seated { IfOk result (λ done. MatchBool done (IsReady task.now table.new) (IsEnded task.now table.new search.new)) }
+    ensures seated { IfOk result (λ done. MatchBool done
+        (IsReady task.now table.new) (IsEnded task.now table.new search.new)) }
 {
     if let Some(slot) = table.free_candidate(task, table.slots.len() as u32) {
         table.add_item(slot)?;

@@ -10,6 +10,7 @@ use std::alloc::Global;
 /// What is to be placed, and in how many rows: `bins`, then `stash` rows of the stash.
 #[derive(Drop)]
 pub(crate) struct Task<'a> {
+    /// The bins that each item's candidates name.
     pub candidates: &'a [[u32; 3]],
     pub bins: u32,
     pub stash: u32,
@@ -28,10 +29,12 @@ impl Task<'_> {
     }
 }
 
-/// The slots of the items so far, and the item that stands in each row.
+/// Items in rows.
 #[derive(Drop)]
 pub(crate) struct Table {
+    /// The slots of the items so far, in the order of the items.
     pub slots: Vec<Slot>,
+    /// The item that stands in each row: the bins, the stash, and while items are placed the row where one waits.
     pub occupants: Vec<Option<u32>>,
 }
 
@@ -106,7 +109,8 @@ impl Table {
         requires waiting { IsFree self.now.occupants.items (task.now.bins + task.now.stash) }
         ensures free { IsFree self.now.occupants.items result }
         ensures behind { task.now.bins ≤ result }
-        ensures full { (row : ℕ) → task.now.bins ≤ row → row < result → IsSome (occupant_at self.now.occupants.items row) }
+        ensures full { (row : ℕ) → task.now.bins ≤ row → row < result
+            → IsSome (occupant_at self.now.occupants.items row) }
     {
         for row in task.bins..task.bins + task.stash {
             if self.occupants[row as usize].is_none() {

@@ -1,13 +1,11 @@
-use Rattle.std.proofs.Common.{◌≡◌, ◌≢◌, ◌+◌, ℕ, List, None, Some, length, map, sym, ap, ◌∙◌, subst, arith}
-use Rattle.std.specs.Prelude.{IsOkUnless, Result, Ok, Err}
+use Rattle.std.proofs.Common.{◌≡◌, ◌≢◌, ℕ, Some, length, map, sym, ap, ◌∙◌, subst, arith}
+use Rattle.std.specs.Prelude.{IsOkUnless, Result, Err}
 use Rattle.std.proofs.lemmas.List.{length-map}
-use Rattle.std.proofs.lemmas.Option.{none-some}
 use Rattle.std.proofs.lemmas.Result.{err_from_is_err_and}
 use Rattle.psi_spec.proofs.Crowding.{length_zip}
-use Rattle.psi_spec.specs.Placement.{IsPlacement, MayHave, Slot}
+use Rattle.psi_spec.specs.Placement.{IsPlacement}
 use Rattle.psi_cuckoo.specs.Table.{slot_of}
 use Rattle.psi_cuckoo.specs.Refusal.{first_fault}
-use Rattle.psi_cuckoo.specs.declared.slot.Slot.{Slot as RowSlot}
 use Rattle.psi_cuckoo.specs.declared.errors.BadSlots.{BadSlots}
 use Rattle.psi_cuckoo.specs.declared.errors.BadSlots.TheVariants.{NoMemory}
 use Rattle.psi_cuckoo.specs.declared.placement.Placement.{Placement}

@@ -1,4 +1,4 @@
-use Rattle.std.proofs.Common.{◌≡◌, ◌≢◌, ◌<◌, ◌≤◌, ◌+◌, ◌++◌, ◌∷◌, ◌==◌, ℕ, Bool, true, false, List, [], None, Some, length, get_or, take, is_some, refl, sym, ap, ◌∙◌, subst, arith, ⊎_elim}
+use Rattle.std.proofs.Common.{◌≡◌, ◌≢◌, ◌<◌, ◌+◌, ◌++◌, ◌∷◌, ◌==◌, ℕ, false, List, [], None, Some, length, get_or, take, is_some, refl, sym, ap, ◌∙◌, subst, arith, ⊎_elim}
 use Rattle.psi_spec.specs.Placement.{MayHave}
 use Rattle.std.specs.Prelude.{IfErr, Result, Err}
 use Rattle.std.specs.List.{list_any}

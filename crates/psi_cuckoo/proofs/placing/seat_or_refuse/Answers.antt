@@ -1,4 +1,4 @@
-use Rattle.std.proofs.Common.{◌≡◌, ◌+◌, Bool, ℕ, length, subst, arith, refl}
+use Rattle.std.proofs.Common.{◌≡◌, ◌+◌, Bool, length, subst, arith, refl}
 use Rattle.std.specs.Prelude.{MatchBool}
 use Rattle.psi_cuckoo.specs.Table.{IsReady}
 use Rattle.psi_cuckoo.specs.Search.{IsEnded}

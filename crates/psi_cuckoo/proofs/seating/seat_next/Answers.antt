@@ -1,5 +1,4 @@
-use Rattle.std.proofs.Common.{◌≡◌, ◌≢◌, ◌<◌, ◌+◌, ◌++◌, ◌∷◌, [], ℕ, List, Some, length, get_or, set, refl, sym, ap, ◌∙◌, subst, arith, inl}
-use Rattle.std.specs.declared.option.Option.{Option}
+use Rattle.std.proofs.Common.{◌≡◌, ◌<◌, ◌+◌, [], ℕ, length, get_or, refl, subst, arith, inl}
 use Rattle.psi_spec.specs.Placement.{MayHave}
 use Rattle.psi_cuckoo.specs.Table.{slot_of}
 use Rattle.psi_cuckoo.specs.declared.slot.Slot.{Slot}

@@ -1,4 +1,4 @@
-use Rattle.std.proofs.Common.{◌≡◌, ◌<◌, ℕ, List, Some, length, sym, ap, ◌∙◌, subst, arith, inr}
+use Rattle.std.proofs.Common.{◌≡◌, ◌<◌, ℕ, Some, length, sym, ap, ◌∙◌, subst, arith, inr}
 use Rattle.psi_cuckoo.specs.Table.{Names, occupant_at}
 use Rattle.psi_cuckoo.specs.Search.{IsLed, IsReached, visit_at}
 use Rattle.psi_cuckoo.specs.declared.search.Visit.{Visit}

@@ -1,6 +1,6 @@
-use Rattle.std.proofs.Common.{◌≡◌, ◌<◌, ◌+◌, ℕ, [], Some, length, get_or, refl, subst, ◌∙◌, arith, inl}
+use Rattle.std.proofs.Common.{◌<◌, ◌+◌, ℕ, [], length, get_or, refl, subst, ◌∙◌, arith, inl}
 use Rattle.psi_spec.specs.Placement.{MayHave}
-use Rattle.psi_cuckoo.specs.Table.{IsFree, occupant_at, slot_at, slot_of}
+use Rattle.psi_cuckoo.specs.Table.{IsFree, slot_of}
 use Rattle.psi_cuckoo.specs.declared.slot.Slot.{Slot}
 use Rattle.psi_cuckoo.proofs.Paths.{occupant_read}
 use Rattle.psi_cuckoo.proofs.Rows.{moved_seats, moved_free}

@@ -1,4 +1,4 @@
-use Rattle.std.proofs.Common.{arith, []}
+use Rattle.std.proofs.Common.{arith}
 use Rattle.psi_cuckoo.proofs.Paths.{names_at}
 use Rattle.psi_cuckoo.proofs.table.Task.candidate.Goals as goal
 
