@@ -230,8 +230,10 @@ fn small_sets_are_placed_where_they_can_be(rt: HostRuntime) -> Result<(), Fail> 
         let stash = next_below(&mut state, 4) as u8;
         let cands = made_set(rt.alloc(), &mut state, bins)?;
         let answer = placed(&rt, rt.alloc(), &cands, bins, stash);
+        let is_placed = answer.is_ok();
         let is_crowded = crowd_of(answer).is_some();
-        assert_eq!(rt; is_crowded, !has_placement(&cands, 0, stash));
+        assert_eq!(rt; is_placed, has_placement(&cands, 0, stash));
+        assert_eq!(rt; is_crowded, !is_placed);
         crowded = crowded.saturating_add(u32::from(is_crowded));
     }
     assert!(rt;

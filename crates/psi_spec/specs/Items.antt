@@ -54,7 +54,7 @@ abbrev pub fault_of_item : List (List ℕ) → List ℕ → Option LineFault
 fault_of_item before item =
     if nat_lt line_limit (length item) then Some (is_long (length item))
     else if not (length item == 0) && (not (list_any (bytes_eq item) before) && (length before == limit_items))
-        then Some is_too_many
+    then Some is_too_many
     else None
 
 -- the fault of a line, with these items before it

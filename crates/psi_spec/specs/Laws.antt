@@ -14,12 +14,14 @@ SetupsShowCommon = (stash : ℕ) (s : Setup) (ys : List (List ℕ)) → IsSetup 
 abbrev pub DealsShowCommon : Type 0
 DealsShowCommon = (stash : ℕ) (seed : List ℕ) (session tag_length : ℕ) (xs ys : List (List ℕ)) (slots : List Slot)
     → IsPlacementOf stash (dealt_receiver seed session tag_length).key (bins_for (length xs)) xs slots
-    → ShowsCommon (setup_of stash (dealt_receiver seed session tag_length) (dealt_sender seed session tag_length) xs slots) ys
+    → ShowsCommon (setup_of stash (dealt_receiver seed session tag_length) (dealt_sender seed session tag_length)
+    xs slots) ys
 
 -- the same, of as many items as the stash has rows, one after another in the stash
 abbrev pub StashShowsCommon : Type 0
 StashShowsCommon = (stash : ℕ) (seed : List ℕ) (session tag_length : ℕ) (xs ys : List (List ℕ)) → length xs ≤ stash
-    → ShowsCommon (setup_of stash (dealt_receiver seed session tag_length) (dealt_sender seed session tag_length) xs (stash_slots (bins_for (length xs)) (length xs))) ys
+    → ShowsCommon (setup_of stash (dealt_receiver seed session tag_length) (dealt_sender seed session tag_length)
+    xs (stash_slots (bins_for (length xs)) (length xs))) ys
 
 -- items of which some list is crowded have no placement, whatever the rows of the stash
 abbrev pub CrowdedExcludesPlacement : Type 0

@@ -7,7 +7,8 @@ pub fn shows_common()
     ensures { SetupsShowCommon }
 {}
 
-/// The same for the two deals of any seed: at any placement of the receiver's items, and in the stash alone where it has a row for each of them.
+/// The same for the two deals of any seed: at any placement of the receiver's items, and in the stash alone where it
+/// has a row for each of them.
 pub fn deals_show_common()
     ensures placed { DealsShowCommon }
     ensures stash { StashShowsCommon }
