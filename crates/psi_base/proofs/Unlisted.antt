@@ -2,7 +2,7 @@
 use Rattle.std.proofs.Common.{◌≡◌, ◌+◌, ◌∙◌, ℕ, Bool, true, false, List, Option, Some, None, Ok, Err, OnOk, OnErr, ap, sym, subst, refl, nat_lt, length, if◌then◌else◌}
 use Rattle.std.specs.declared.result.Result.{Result}
 use Rattle.psi_base.specs.State.{State, content_answer, read_answer, outside_of, ReadsExactly, WritesExactly, PrintsExactly, OpensExactly, ReceivesExactly, SendsExactly}
-use Rattle.psi_base.specs.Outside.{WriteStarved, partly_written, Reads, Writes, Prints, Opens, Receives, Sends}
+use Rattle.psi_base.specs.Outside.{nothing_known, WriteStarved, partly_written, Reads, Writes, Prints, Opens, Receives, Sends}
 use Rattle.psi_base.specs.Steady.{NoneListed, steadied, steady_outside_of}
 use Rattle.psi_base.specs.declared.faults.Failed.{Failed}
 use Rattle.psi_base.specs.declared.faults.Fault.{Fault}
@@ -35,8 +35,8 @@ unlisted_after old changed (Ok _) new before after done refused = subst NoneList
 unlisted_after old changed (Err _) new before after done refused = subst NoneListed (sym refused) before
 
 -- a read, in a steady outside; and no call is listed after it
-pub reads_steady : (old : State) (name : List ℕ) (max : ℕ) (r : Result (List ℕ) ReadFault) (new : State) → NoneListed old → Reads (outside_of old) name max r (outside_of new) → ReadsExactly old name max r new → Reads (steady_outside_of old) name max r (steady_outside_of new) × NoneListed new
-reads_steady old name max (Ok bytes) new none h exact = ((h.0, h.1, ap steadied h.2), subst NoneListed (sym exact.1) none)
+pub reads_steady : (old : State) (name : List ℕ) (max : ℕ) (r : Result (List ℕ) ReadFault) (new : State) → NoneListed old → Reads nothing_known (outside_of old) name max r (outside_of new) → ReadsExactly old name max r new → Reads nothing_known (steady_outside_of old) name max r (steady_outside_of new) × NoneListed new
+reads_steady old name max (Ok bytes) new none h exact = ((h.0, h.1, tt, ap steadied h.3), subst NoneListed (sym exact.1) none)
 reads_steady old name max (Err read.Failed) new none h exact = (record { rose = h.rose; missing = λ _. missing_file old name max none exact.0; left = ap steadied h.left }, subst NoneListed (sym exact.1) none)
 reads_steady old name max (Err (read.TooLong taken)) new none h exact = ((h.0, h.1, ap steadied h.2), subst NoneListed (sym exact.1) none)
 reads_steady old name max (Err read.NoMemory) new none h exact = (ap steadied h, subst NoneListed (sym exact.1) none)
@@ -68,8 +68,8 @@ opens_steady old (Err fault.Failed) new none exact = absurd (never (none old.lin
 opens_steady old (Err fault.NoMemory) new none exact = absurd exact
 
 -- a receive, likewise
-pub receives_steady : (old : State) (before : List ℕ) (r : Result ℕ Failed) (after : List ℕ) (new : State) → NoneListed old → Receives (outside_of old) r after (outside_of new) → ReceivesExactly old before r after new → Receives (steady_outside_of old) r after (steady_outside_of new) × NoneListed new
-receives_steady old before (Ok count) after new none h exact = (record { within = h.within; next = h.next; some = h.some; ended = h.ended; left = ap steadied h.left }, subst NoneListed (sym exact.3) none)
+pub receives_steady : (old : State) (before : List ℕ) (r : Result ℕ Failed) (after : List ℕ) (new : State) → NoneListed old → Receives nothing_known (outside_of old) r after (outside_of new) → ReceivesExactly old before r after new → Receives nothing_known (steady_outside_of old) r after (steady_outside_of new) × NoneListed new
+receives_steady old before (Ok count) after new none h exact = (record { within = h.within; came = tt; next = h.next; some = h.some; ended = h.ended; left = ap steadied h.left }, subst NoneListed (sym exact.3) none)
 receives_steady old before (Err _) after new none h exact = absurd (never (none old.link_calls.made).1 exact.0)
 
 -- a send, likewise

@@ -76,12 +76,22 @@ abbrev pub as_list : {E : Type 0} → Result (Vec ℕ Global) E → Result (List
 as_list (Ok bytes) = Ok bytes.items
 as_list (Err error) = Err error
 
+-- what calls alone make known: what a read of the file of a name may answer, and what a receive may take
+pub record Known : Type 1 where
+  pub gives : List ℕ → List ℕ → Type 0
+  pub comes : List ℕ → Type 0
+
+-- nothing is known but what the contents tell
+abbrev pub nothing_known : Known
+nothing_known = record { gives = λ name bytes. Unit {0}; comes = λ bytes. Unit {0} }
+
 -- what a read of at most max bytes of a file may answer and leave
-abbrev pub Reads : Outside → List ℕ → ℕ → Result (List ℕ) ReadFault → Outside → Type 0
-Reads old name max (Ok bytes) new = (length bytes ≤ max) × HasFile old.files name bytes × (new ≡ old)
-Reads old name max (Err read.Failed) new = FileFailed old name new
-Reads old name max (Err (read.TooLong taken)) new = (max < taken) × HasAtLeast old.files name taken × (new ≡ old)
-Reads old name max (Err read.NoMemory) new = new ≡ old
+abbrev pub Reads : Known → Outside → List ℕ → ℕ → Result (List ℕ) ReadFault → Outside → Type 0
+Reads known old name max (Ok bytes) new =
+    (length bytes ≤ max) × HasFile old.files name bytes × known.gives name bytes × (new ≡ old)
+Reads known old name max (Err read.Failed) new = FileFailed old name new
+Reads known old name max (Err (read.TooLong taken)) new = (max < taken) × HasAtLeast old.files name taken × (new ≡ old)
+Reads known old name max (Err read.NoMemory) new = new ≡ old
 
 -- the outside after a file was written
 abbrev pub written : Outside → List ℕ → List ℕ → Outside
@@ -138,17 +148,18 @@ Opens old (Err fault.NoMemory) new = Starved old new
 
 -- so many bytes came, which are the front of the buffer; none come only where that was counted as an end, and nothing
 -- is left where that is told
-pub record Received (old : Outside) (count : ℕ) (buffer : List ℕ) (new : Outside) : Type 0 where
+pub record Received (known : Known) (old : Outside) (count : ℕ) (buffer : List ℕ) (new : Outside) : Type 0 where
   pub within : count ≤ length buffer
+  pub came : known.comes (take count buffer)
   pub next : IfSome old.incoming (λ bytes. take count buffer ≡ take count bytes)
   pub some : 0 < count → new.ends ≡ old.ends
   pub ended : count ≡ 0 → Rose old.ends new.ends × IfSome old.incoming (λ bytes. bytes ≡ [])
   pub left : new ≡ record old { incoming = option_map (λ bytes. drop count bytes) old.incoming; ends = new.ends }
 
 -- what a receive may answer and leave, in the buffer too
-abbrev pub Receives : Outside → Result ℕ Failed → List ℕ → Outside → Type 0
-Receives old (Ok count) buffer new = Received old count buffer new
-Receives old (Err _) buffer new = LinkFailed old new
+abbrev pub Receives : Known → Outside → Result ℕ Failed → List ℕ → Outside → Type 0
+Receives known old (Ok count) buffer new = Received known old count buffer new
+Receives known old (Err _) buffer new = LinkFailed old new
 
 -- the outside after these bytes were sent too
 abbrev pub sent_too : Outside → List ℕ → Outside

@@ -125,16 +125,18 @@ impl MemWorld {
 }
 
 impl World for MemWorld {
-    ghost use Rattle.psi_base.specs.Outside.{Outside, Opens, Prints, Reads, Receives, Sends, Writes, as_list};
+    ghost use Rattle.psi_base.specs.Outside.{Outside, Opens, Prints, Reads, Receives, Sends, Writes, as_list, nothing_known};
     ghost use Rattle.psi_base.specs.State.{state_of, outside_of, ReadsExactly, WritesExactly, PrintsExactly, OpensExactly, ReceivesExactly, SendsExactly};
 
     ghost outside = { λ world. outside_of (state_of world) };
+
+    ghost known = { nothing_known };
 
     /// As `World` says. It fails just where this call is listed or the file is missing, and `taken` is
     /// one more than `max`.
     fn read_file(&mut self, alloc: Global, name: &str, max: u32) -> Result<Vec<u8>, ReadFault>
         ensures reads { let old = state_of self.old in
-            Reads (outside_of old) name.now max (as_list result) (outside_of (state_of self.new)) }
+            Reads nothing_known (outside_of old) name.now max (as_list result) (outside_of (state_of self.new)) }
         ensures exact { let old = state_of self.old in
             ReadsExactly old name.now max (as_list result) (state_of self.new) }
     {
@@ -204,7 +206,7 @@ impl World for MemWorld {
         requires ready { IsTrue (outside_of (state_of self.old)).ready }
         requires room { 0 < length buf.old }
         ensures receives { let old = state_of self.old in
-            Receives (outside_of old) result buf.new (outside_of (state_of self.new)) }
+            Receives nothing_known (outside_of old) result buf.new (outside_of (state_of self.new)) }
         ensures exact { let old = state_of self.old in
             ReceivesExactly old buf.old result buf.new (state_of self.new) }
     {

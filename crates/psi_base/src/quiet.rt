@@ -85,17 +85,19 @@ impl QuietMem {
 }
 
 impl World for QuietMem {
-    ghost use Rattle.psi_base.specs.Outside.{Opens, Prints, Reads, Receives, Sends, Writes, as_list};
+    ghost use Rattle.psi_base.specs.Outside.{Opens, Prints, Reads, Receives, Sends, Writes, as_list, nothing_known};
     ghost use Rattle.psi_base.specs.State.{ReadsExactly, WritesExactly, PrintsExactly, OpensExactly, ReceivesExactly, SendsExactly};
     ghost use Rattle.psi_base.specs.Quiet.{quiet_of};
     ghost use Rattle.psi_base.specs.Steady.{steady_outside_of};
 
     ghost outside = { λ world. steady_outside_of (quiet_of world) };
 
+    ghost known = { nothing_known };
+
     /// As `World` says. It fails just where the file is missing, and `taken` is one more than `max`.
     fn read_file(&mut self, alloc: Global, name: &str, max: u32) -> Result<Vec<u8>, ReadFault>
-        ensures reads { let old = quiet_of self.old in
-            Reads (steady_outside_of old) name.now max (as_list result) (steady_outside_of (quiet_of self.new)) }
+        ensures reads { let new = steady_outside_of (quiet_of self.new) in
+            Reads nothing_known (steady_outside_of (quiet_of self.old)) name.now max (as_list result) new }
         ensures exact { let old = quiet_of self.old in
             ReadsExactly old name.now max (as_list result) (quiet_of self.new) }
     {
@@ -136,7 +138,7 @@ impl World for QuietMem {
         requires ready { IsTrue (steady_outside_of (quiet_of self.old)).ready }
         requires room { 0 < length buf.old }
         ensures receives { let old = quiet_of self.old in
-            Receives (steady_outside_of old) result buf.new (steady_outside_of (quiet_of self.new)) }
+            Receives nothing_known (steady_outside_of old) result buf.new (steady_outside_of (quiet_of self.new)) }
         ensures exact { let old = quiet_of self.old in
             ReceivesExactly old buf.old result buf.new (quiet_of self.new) }
     {

@@ -1,6 +1,6 @@
 // The outside as a trait with one ghost record, and a loop over its prints.
 ghost use Rattle.std.specs.Prelude.{◌<◌, length, IsSome, IsTrue};
-ghost use Rattle.psi_base.specs.Outside.{Outside, Opens, Prints, PrintsAll, Reads, Receives, Sends, Writes, as_list};
+ghost use Rattle.psi_base.specs.Outside.{Known, Outside, Opens, Prints, PrintsAll, Reads, Receives, Sends, Writes, as_list};
 
 use crate::{Failed, Fault, ReadFault};
 use std::alloc::Global;
@@ -23,13 +23,17 @@ pub trait World {
     /// What the outside holds, as far as it tells, and how often a call of it was refused.
     ghost outside: { Self → Outside };
 
+    /// What a read of the file of a name may answer, and what a receive may take. Nothing but such a call makes
+    /// it known, so what rests on a content rests on one that was read, also in an outside that tells no files.
+    ghost known: { Known };
+
     /// The whole content of the file of this name, which has at most `max` bytes.
     ///
     /// `Failed` comes only where the count of file faults rose, as for a missing file, and in a steady
     /// outside only for a missing file. `TooLong` comes only where more than `max` bytes of the file were
     /// taken. `NoMemory` comes where memory for the content is wanting, and is not counted.
     fn read_file(&mut self, alloc: Global, name: &str, max: u32) -> Result<Vec<u8>, ReadFault>
-        ensures { Reads (outside self.old) name.now max (as_list result) (outside self.new) };
+        ensures { Reads known (outside self.old) name.now max (as_list result) (outside self.new) };
 
     /// Leaves just these bytes in the file of this name.
     ///
@@ -60,7 +64,7 @@ pub trait World {
     fn recv(&mut self, buf: &mut [u8]) -> Result<usize, Failed>
         requires ready { IsTrue (outside self.old).ready }
         requires room { 0 < length buf.old }
-        ensures { Receives (outside self.old) result buf.new (outside self.new) };
+        ensures { Receives known (outside self.old) result buf.new (outside self.new) };
 
     /// Sends a front of the bytes, at least one of them, and answers how many bytes that were.
     ///

@@ -2,7 +2,7 @@
 ghost use Rattle.std.specs.Prelude.{◌≡◌, ◌<◌, true, false, length, IsTrue};
 ghost use Rattle.std.proofs.Common.{rules};
 ghost use Rattle.psi_base.specs.State.{next_count};
-ghost use Rattle.psi_base.specs.Outside.{Opens, Prints, Reads, Receives, Sends, Writes, as_list};
+ghost use Rattle.psi_base.specs.Outside.{Opens, Prints, Reads, Receives, Sends, Writes, as_list, nothing_known};
 ghost use Rattle.psi_cli.specs.Refused.{untouched, CountsRead, LinkRefused, PrintRefused, ReadsWhole, WriteRefused};
 ghost use Rattle.psi_cli.specs.declared.real.Unread.TheVariants as unread;
 
@@ -166,9 +166,11 @@ impl<R: Files + Print + Net + Drop> World for RealWorld<R> {
 
     ghost outside = { outside_of };
 
+    ghost known = { nothing_known };
+
     /// As `World` says. At most one byte more than `max` is taken.
     fn read_file(&mut self, alloc: Global, name: &str, max: u32) -> Result<Vec<u8>, ReadFault>
-        ensures reads { Reads (outside_of self.old) name.now max (as_list result) (outside_of self.new) }
+        ensures reads { Reads nothing_known (outside_of self.old) name.now max (as_list result) (outside_of self.new) }
         ensures failed { result ≡ Err ReadFault.Failed →
             (outside_of self.new).file_faults ≡ next_count (outside_of self.old).file_faults }
     {
@@ -230,7 +232,7 @@ impl<R: Files + Print + Net + Drop> World for RealWorld<R> {
     fn recv(&mut self, buf: &mut [u8]) -> Result<usize, Failed>
         requires ready { IsTrue (outside_of self.old).ready }
         requires room { 0 < length buf.old }
-        ensures receives { Receives (outside_of self.old) result buf.new (outside_of self.new) }
+        ensures receives { Receives nothing_known (outside_of self.old) result buf.new (outside_of self.new) }
         ensures failed { result ≡ Err (record {}) →
             (outside_of self.new).link_faults ≡ next_count (outside_of self.old).link_faults }
     {

@@ -3,6 +3,7 @@ use Rattle.std.specs.Prelude.{◌≡◌, ◌+◌, ◌-◌, ◌==◌, ◌&&◌, �
 use Rattle.std.specs.List.{filter_map, list_any, range_with_len}
 use Rattle.std.specs.Option.{option_map_or}
 use Rattle.std.specs.declared.option.Option.{Option}
+use Rattle.psi_spec.specs.Placement.{IsPlacement, Slot as PlacedSlot}
 use Rattle.psi_spec.specs.CrowdedLists.{IsCrowded, touched_by}
 use Rattle.psi_cuckoo.specs.declared.slot.Slot.{Slot}
 use Rattle.psi_cuckoo.specs.declared.errors.NoFit.{NoFit}
@@ -10,6 +11,10 @@ use Rattle.psi_cuckoo.specs.declared.errors.NoFit.TheVariants.{Crowded, NoMemory
 use Rattle.psi_cuckoo.specs.declared.errors.BadSlots.{BadSlots}
 use Rattle.psi_cuckoo.specs.declared.errors.BadSlots.TheVariants.{Count, Index, Row, Twice}
 use Rattle.psi_cuckoo.specs.Table.{slot_at}
+
+-- there is a placement of items with these candidates
+abbrev pub HasPlacement : ℕ → ℕ → List (List ℕ) → Type 0
+HasPlacement stash bins candidates = (slots : List PlacedSlot) × IsPlacement stash bins candidates slots
 
 -- a crowded list with the number of the bins that it names; want of memory says nothing
 abbrev pub Refuses : ℕ → List (List ℕ) → NoFit → Type 0

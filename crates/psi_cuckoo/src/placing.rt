@@ -1,10 +1,10 @@
 // A placement of all items, or the items that exclude one.
 ghost use Rattle.std.specs.Prelude.{◌≡◌, ◌<◌, ◌+◌, ◌≤◌, ℕ, [], All, IfErr, IfNone, IfOk, IfSome, IsOkUnless, OnOk, length, map};
 ghost use Rattle.psi_spec.specs.Limits.{bins_for, limit_items, stash_limit};
-ghost use Rattle.psi_spec.specs.Placement.{HasPlacement, IsPlacement};
+ghost use Rattle.psi_spec.specs.Placement.{IsPlacement};
 ghost use Rattle.psi_spec.specs.CrowdedLists.{IsCrowded, touched_by};
 ghost use Rattle.psi_cuckoo.specs.Table.{AreOccupants, IsReady, IsTask, slot_of};
-ghost use Rattle.psi_cuckoo.specs.Refusal.{Refuses};
+ghost use Rattle.psi_cuckoo.specs.Refusal.{HasPlacement, Refuses};
 ghost use Rattle.psi_cuckoo.specs.declared.errors.NoFit.TheVariants as fit;
 
 use crate::errors::NoFit;

@@ -1,64 +1,95 @@
 // The lines that name faults, and the numbers of the statuses.
+use psi_base::Places;
+use psi_frames::{BadFrame, Reason};
 use psi_items::BadItems;
 use psi_top::{Status, fault_line, status_number};
+use std::process::Abort;
+use std::test::Fail;
 
-const BYTE: BadItems = BadItems::Byte { line: 1, found: 13 };
+// Asserts the number of a status and the line that names its fault.
+fn expect_line(rt: &impl Abort, status: &Status, number: u8, line: &str) {
+    let mut out = [0; 120];
+    let length = fault_line(status, &mut out);
+    assert_eq!(rt; &out[..length], line.as_bytes(), "at {line}");
+    assert_eq!(rt; status_number(status), number, "at {line}");
+}
 
-const LONG: BadItems = BadItems::Long {
-    line: 2,
-    length: 300,
-};
-
-const MANY: BadItems = BadItems::Many { line: 1_048_577 };
-
-const BAD_BYTE: Status = Status::BadItems {
-    word: 2,
-    fault: BYTE,
-};
-
-const LONG_ITEM: Status = Status::BadItems {
-    word: 1,
-    fault: LONG,
-};
-
-const MANY_ITEMS: Status = Status::BadItems {
-    word: 1,
-    fault: MANY,
-};
-
-const TOO_LONG: Status = Status::TooLong {
-    word: 1,
-    taken: 33_554_433,
-};
-
-/// A status, its number, and the line that names its fault.
-const NAMED: &[(Status, u8, &str)] = &[
-    (Status::Done, 0, ""),
-    (Status::BadWords { at: 4 }, 2, "psi: bad word at 4\n"),
-    (BAD_BYTE, 3, "psi: word 2: line 1: byte 13\n"),
-    (LONG_ITEM, 3, "psi: word 1: line 2: item of 300 bytes\n"),
-    (MANY_ITEMS, 3, "psi: word 1: line 1048577: too many items\n"),
+/// The fault of an item file of a word, and its line.
+const BAD_ITEMS: &[(u8, BadItems, &str)] = &[
     (
-        Status::FileFault { word: 2 },
-        10,
-        "psi: word 2: file fault\n",
+        2,
+        BadItems::Byte { line: 1, found: 13 },
+        "psi: word 2: line 1: byte 13\n",
     ),
-    (Status::PrintFault, 12, "psi: print fault\n"),
-    (TOO_LONG, 13, "psi: word 1: too long after 33554433 bytes\n"),
     (
-        Status::LargeSet { count: 5 },
-        16,
-        "psi: large set of 5 items\n",
+        1,
+        BadItems::Long {
+            line: 2,
+            length: 300,
+        },
+        "psi: word 1: line 2: item of 300 bytes\n",
     ),
-    (Status::NoMemory, 70, "psi: no memory\n"),
+    (
+        1,
+        BadItems::Many { line: 1_048_577 },
+        "psi: word 1: line 1048577: too many items\n",
+    ),
+    (1, BadItems::NoMemory, "psi: no memory\n"),
 ];
 
 #[test]
-fn statuses_have_lines_and_numbers(rt: HostRuntime) {
-    let mut out = [0; 120];
-    for &(status, number, line) in NAMED {
-        let length = fault_line(&status, &mut out);
-        assert_eq!(rt; &out[..length], line.as_bytes(), "at {line}");
-        assert_eq!(rt; status_number(&status), number, "at {line}");
+fn bad_items_have_lines(rt: HostRuntime) {
+    for &(word, fault, line) in BAD_ITEMS {
+        expect_line(&rt, &Status::BadItems { word, fault }, 3, line);
     }
+}
+
+#[test]
+fn files_and_words_have_lines(rt: HostRuntime) {
+    let bad_words = Status::BadWords { at: 4 };
+    let file_fault = Status::FileFault { word: 2 };
+    let large_set = Status::LargeSet { count: 5 };
+    let too_long = Status::TooLong {
+        word: 1,
+        taken: 33_554_433,
+    };
+    expect_line(&rt, &Status::Done, 0, "");
+    expect_line(&rt, &bad_words, 2, "psi: bad word at 4\n");
+    expect_line(&rt, &file_fault, 10, "psi: word 2: file fault\n");
+    expect_line(&rt, &Status::PrintFault, 12, "psi: print fault\n");
+    expect_line(
+        &rt,
+        &too_long,
+        13,
+        "psi: word 1: too long after 33554433 bytes\n",
+    );
+    expect_line(&rt, &large_set, 16, "psi: large set of 5 items\n");
+    expect_line(&rt, &Status::NoMemory, 70, "psi: no memory\n");
+}
+
+#[test]
+fn peers_have_lines(rt: HostRuntime) {
+    let bad_frame = Status::BadFrame(BadFrame {
+        offset: 16_428,
+        reason: Reason::Order { at: 0 },
+    });
+    let peer_ended = Status::PeerEnded { offset: 5_144 };
+    expect_line(&rt, &bad_frame, 6, "psi: frame at 16428: reason 9\n");
+    expect_line(&rt, &peer_ended, 7, "psi: peer ended at 5144\n");
+    expect_line(&rt, &Status::LinkFault, 11, "psi: link fault\n");
+}
+
+#[test]
+fn crowded_sets_have_a_line(rt: HostRuntime) -> Result<(), Fail> {
+    let mut items = Places::new(rt.alloc());
+    for item in 0..6 {
+        items.push(item)?;
+    }
+    let crowded = Status::NoPlacement {
+        word: 2,
+        items,
+        touched: 1,
+    };
+    expect_line(&rt, &crowded, 5, "psi: word 2: 6 items touch 1 bins\n");
+    Ok(())
 }

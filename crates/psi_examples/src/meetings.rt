@@ -1,7 +1,6 @@
 // Items that are shown though they are not common, since a short tag of theirs is met by chance. The
 // texts were found by programs apart from this one.
-use crate::runs::{ZERO_SEED, expect_run, world_of};
-use psi_top::Status;
+use crate::runs::{DONE, ZERO_SEED, expect_run, world_of};
 use std::alloc::{AllocError, Global};
 use std::test::Fail;
 
@@ -34,7 +33,7 @@ fn short_tags_meet(rt: HostRuntime) -> Result<(), Fail> {
     for &(name, session, tag_length, printed) in MEETINGS {
         let texts = ["local", "x", "y", ZERO_SEED, session, tag_length];
         let mut world = world_of(rt.alloc(), Some(b"a\nb\nc\nd\n"), Some(y.as_bytes()))?;
-        expect_run(&rt, &texts, &mut world, Status::Done, printed, name)?;
+        expect_run(&rt, &texts, &mut world, DONE, printed, name)?;
     }
     Ok(())
 }

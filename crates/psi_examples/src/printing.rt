@@ -1,6 +1,5 @@
 // What `local` prints where nothing is refused.
-use crate::runs::{LOCAL, expect_run, world_of};
-use psi_top::Status;
+use crate::runs::{DONE, LOCAL, expect_run, world_of};
 use std::test::Fail;
 
 /// The name of a row, the files x and y, and the text that is printed.
@@ -20,7 +19,7 @@ const PRINTED: &[(&str, &[u8], &[u8], &[u8])] = &[
 fn prints_common_items(rt: HostRuntime) -> Result<(), Fail> {
     for &(name, x, y, printed) in PRINTED {
         let mut world = world_of(rt.alloc(), Some(x), Some(y))?;
-        expect_run(&rt, LOCAL, &mut world, Status::Done, printed, name)?;
+        expect_run(&rt, LOCAL, &mut world, DONE, printed, name)?;
     }
     Ok(())
 }

@@ -1,8 +1,6 @@
 // Files and sets that `local` refuses, and the order of its refusals. A refused run prints nothing.
-use crate::runs::{LOCAL, expect_run, world_of};
+use crate::runs::{DONE, LOCAL, expect_run, world_of};
 use psi_base::FaultKind;
-use psi_items::BadItems;
-use psi_top::Status;
 use std::test::Fail;
 
 const ONE_ITEM: Option<&[u8]> = Some(b"a\n");
@@ -22,41 +20,22 @@ const LONG_LINE: Option<&[u8]> = Some(
     \n\x07\n",
 );
 
-const X_FAULT: Status = Status::FileFault { word: 1 };
+const X_FAULT: &str = "psi: word 1: file fault\n";
 
-const Y_FAULT: Status = Status::FileFault { word: 2 };
+const Y_FAULT: &str = "psi: word 2: file fault\n";
 
-const FIVE: Status = Status::LargeSet { count: 5 };
+const FIVE: &str = "psi: large set of 5 items\n";
 
-const LONG: BadItems = BadItems::Long {
-    line: 2,
-    length: 300,
-};
+const LONG_IN_X: &str = "psi: word 1: line 2: item of 300 bytes\n";
 
-const BYTE: BadItems = BadItems::Byte { line: 1, found: 13 };
+const LONG_IN_Y: &str = "psi: word 2: line 2: item of 300 bytes\n";
 
-const LONG_IN_X: Status = Status::BadItems {
-    word: 1,
-    fault: LONG,
-};
+const BYTE_IN_X: &str = "psi: word 1: line 1: byte 13\n";
 
-const LONG_IN_Y: Status = Status::BadItems {
-    word: 2,
-    fault: LONG,
-};
+const BYTE_IN_Y: &str = "psi: word 2: line 1: byte 13\n";
 
-const BYTE_IN_X: Status = Status::BadItems {
-    word: 1,
-    fault: BYTE,
-};
-
-const BYTE_IN_Y: Status = Status::BadItems {
-    word: 2,
-    fault: BYTE,
-};
-
-/// The name of a row, the files x and y, of which None is missing, and how the run ends.
-const REFUSED: &[(&str, Option<&[u8]>, Option<&[u8]>, Status)] = &[
+/// The name of a row, the files x and y, of which None is missing, and the line of the refusal.
+const REFUSED: &[(&str, Option<&[u8]>, Option<&[u8]>, &str)] = &[
     ("five items", FIVE_ITEMS, ONE_ITEM, FIVE),
     ("no y", ONE_ITEM, None, Y_FAULT),
     ("no x", None, ONE_ITEM, X_FAULT),
@@ -76,47 +55,45 @@ const REFUSED: &[(&str, Option<&[u8]>, Option<&[u8]>, Status)] = &[
 
 #[test]
 fn refuses_files_in_order(rt: HostRuntime) -> Result<(), Fail> {
-    for &(name, x, y, status) in REFUSED {
+    for &(name, x, y, line) in REFUSED {
         let mut world = world_of(rt.alloc(), x, y)?;
-        expect_run(&rt, LOCAL, &mut world, status, b"", name)?;
+        expect_run(&rt, LOCAL, &mut world, line, b"", name)?;
     }
     Ok(())
 }
 
-/// The name of a row, the kind of the call that fails and its place, and how the run ends.
-const FAILED: &[(&str, FaultKind, u64, Status)] = &[
+/// The name of a row, the kind of the call that fails and its place, and the line of the refusal.
+const FAILED: &[(&str, FaultKind, u64, &str)] = &[
     ("read of x", FaultKind::File, 0, X_FAULT),
     ("read of y", FaultKind::File, 1, Y_FAULT),
-    ("print", FaultKind::Print, 0, Status::PrintFault),
+    ("print", FaultKind::Print, 0, "psi: print fault\n"),
 ];
 
 #[test]
 fn failed_calls_end_the_run(rt: HostRuntime) -> Result<(), Fail> {
-    for &(name, kind, nth, status) in FAILED {
+    for &(name, kind, nth, line) in FAILED {
         let mut world = world_of(rt.alloc(), ONE_ITEM, ONE_ITEM)?;
         world.fail(kind, nth)?;
-        expect_run(&rt, LOCAL, &mut world, status, b"", name)?;
+        expect_run(&rt, LOCAL, &mut world, line, b"", name)?;
     }
     Ok(())
 }
 
-const TOO_LONG: Status = Status::TooLong {
-    word: 1,
-    taken: 33_554_433,
-};
+const TOO_LONG: &str = "psi: word 1: too long after 33554433 bytes\n";
 
-/// The name of a row, the length of the file x, which is of line feeds alone, and how the run ends.
-const LENGTHS: &[(&str, u32, Status)] = &[
-    ("the longest file", 33_554_432, Status::Done),
+/// The name of a row, the length of the file x, which is of line feeds alone, and the line of the
+/// run.
+const LENGTHS: &[(&str, u32, &str)] = &[
+    ("the longest file", 33_554_432, DONE),
     ("one byte more", 33_554_433, TOO_LONG),
 ];
 
 #[test]
 fn reads_files_up_to_the_limit(rt: HostRuntime) -> Result<(), Fail> {
-    for &(name, length, status) in LENGTHS {
+    for &(name, length, line) in LENGTHS {
         let blank = vec![in rt.alloc(); b'\n'; length as usize]?;
         let mut world = world_of(rt.alloc(), Some(&blank), ONE_ITEM)?;
-        expect_run(&rt, LOCAL, &mut world, status, b"", name)?;
+        expect_run(&rt, LOCAL, &mut world, line, b"", name)?;
     }
     Ok(())
 }

@@ -1,7 +1,7 @@
 // What the examples share: the words of a command, a world with two files, and a run with what it
 // has to answer.
 use psi_base::{MemWorld, NoMemory, Words};
-use psi_top::{Status, run};
+use psi_top::{fault_line, run};
 use std::alloc::Global;
 use std::process::Abort;
 
@@ -32,18 +32,24 @@ pub fn world_of(alloc: Global, x: Option<&[u8]>, y: Option<&[u8]>) -> Result<Mem
     Ok(world)
 }
 
-/// Runs the words over the world, and asserts how the run ends and all that is printed by then.
+/// The line of a run that is done.
+pub const DONE: &str = "";
+
+/// Runs the words over the world, and asserts the line that names how the run ends and all that is printed
+/// by then.
 pub fn expect_run(
     rt: &(impl Abort + AllocGlobal),
     texts: &[&str],
     world: &mut MemWorld,
-    status: Status,
+    line: &str,
     printed: &[u8],
     name: &str,
 ) -> Result<(), NoMemory> {
     let words = words_of(rt.alloc(), texts)?;
     let outcome = run(rt.alloc(), &words, world);
-    assert_eq!(rt; outcome.status, status, "at {name}");
+    let mut out = [0; 120];
+    let length = fault_line(&outcome.status, &mut out);
+    assert_eq!(rt; &out[..length], line.as_bytes(), "at {name}");
     assert_eq!(rt; world.printed(), printed, "at {name}");
     Ok(())
 }

@@ -1,7 +1,6 @@
 // The words of `local`: which are taken, and the place of the first that is not.
-use crate::runs::{LOCAL, ZERO_SEED as Z, expect_run, world_of};
+use crate::runs::{DONE, LOCAL, ZERO_SEED as Z, expect_run, world_of};
 use psi_base::FaultKind;
-use psi_top::Status;
 use std::test::Fail;
 
 const SHORT_SEED: &str = "000000000000000000000000000000000000000000000000000000000000000";
@@ -71,7 +70,8 @@ fn bad_words_have_their_places(rt: HostRuntime) -> Result<(), Fail> {
     let mut world = world_of(rt.alloc(), Some(b"b\n"), Some(b"b\n"))?;
     world.fail(FaultKind::File, 0)?;
     for &(name, texts, at) in BAD_WORDS {
-        expect_run(&rt, texts, &mut world, Status::BadWords { at }, b"", name)?;
+        let line = format!(in rt.alloc(); "psi: bad word at {at}\n")?;
+        expect_run(&rt, texts, &mut world, &line, b"", name)?;
     }
 
     // No run above read a file: the first read, which fails, is still to come.
@@ -79,11 +79,11 @@ fn bad_words_have_their_places(rt: HostRuntime) -> Result<(), Fail> {
         &rt,
         LOCAL,
         &mut world,
-        Status::FileFault { word: 1 },
+        "psi: word 1: file fault\n",
         b"",
         "first read",
     )?;
-    expect_run(&rt, LOCAL, &mut world, Status::Done, b"b\n", "later reads")?;
+    expect_run(&rt, LOCAL, &mut world, DONE, b"b\n", "later reads")?;
     Ok(())
 }
 
@@ -103,7 +103,7 @@ fn good_words_are_taken(rt: HostRuntime) -> Result<(), Fail> {
     for &(name, seed, session, tag_length) in GOOD_WORDS {
         let texts = ["local", "x", "y", seed, session, tag_length];
         let mut world = world_of(rt.alloc(), Some(b"b\nc\n"), Some(b"c\nd\nb\n"))?;
-        expect_run(&rt, &texts, &mut world, Status::Done, b"b\nc\n", name)?;
+        expect_run(&rt, &texts, &mut world, DONE, b"b\nc\n", name)?;
     }
     Ok(())
 }

@@ -1,9 +1,11 @@
-//! Codes of item digests, and tags of words.
-ghost use Rattle.std.specs.Prelude.{◌≡◌, ◌≤◌, length};
+// Codes and bins of item digests, and tags of words, over the SHA-256 of FIPS 180-4.
+ghost use Rattle.std.specs.Prelude.{◌≡◌, ◌≤◌, ◌<◌, ◌+◌, ◌-◌, ◌*◌, ◌%◌, ◌++◌, ◌∷◌, [], length, drop, take, codes, All};
+ghost use Rattle.std.specs.Int.{w64, from_be_bytes};
+ghost use Rattle.sha2.specs.Sha256.{sha256};
 ghost use Rattle.psi_spec.specs.Bits.{xor, both};
-ghost use Rattle.psi_spec.specs.Formulas.{code as code_of, code_half, tag, padded_tag};
+ghost use Rattle.psi_spec.specs.Formulas.{bin, code as code_of, code_half, tag, padded_tag};
 
-use crate::words::Word512;
+use psi_bits::Word512;
 use sha2::{Digest, Sha256};
 
 /// A tag of 1 to 16 bytes, with zeros behind them.
@@ -33,6 +35,60 @@ pub fn code(key: &[u8; 16], index: u8, digest: &[u8; 32]) -> Word512
     low.copy_from_slice(&half_code(key, index, 0, digest));
     high.copy_from_slice(&half_code(key, index, 1, digest));
     Word512::from_bytes(&bytes)
+}
+
+// The hash that holds the three bins of an item with this digest.
+fn bins_hash(key: &[u8; 16], digest: &[u8; 32]) -> [u8; 32]
+    ensures { result ≡ sha256 (codes "psi-bins" ++ key.now ++ digest.now) }
+{
+    let mut hasher = Sha256::new();
+    hasher.update("psi-bins");
+    hasher.update(key);
+    hasher.update(digest);
+    hasher.finalize()
+}
+
+// The bin at an index from 1 to 3, of so many bins, that a hash holds.
+fn bin_in(hash: &[u8; 32], i: u8, bins: u32) -> u32
+    requires bins { 1 ≤ bins }
+    requires first { 1 ≤ i }
+    requires last { i ≤ 3 }
+    ensures { result ≡ from_be_bytes w64 (take 8 (drop (8 * (i - 1)) hash.now)) % bins }
+{
+    let at = 8 * (usize::from(i) - 1);
+    let mut number = [0; 8];
+    number.copy_from_slice(&hash[at..at + 8]);
+    (u64::from_be_bytes(number) % u64::from(bins)) as u32
+}
+
+/// The bin at index `i`, from 1 to 3, of an item with this digest, under a key of 16 bytes: a number
+/// below `bins`, of which there is at least one.
+#[tactic(auto, unfolding(psi_spec::specs::Formulas::bin))]
+pub fn bin_of(key: &[u8; 16], i: u8, digest: &[u8; 32], bins: u32) -> u32
+    requires bins { 1 ≤ bins }
+    requires first { 1 ≤ i }
+    requires last { i ≤ 3 }
+    ensures bin { result ≡ bin key.now bins i digest.now }
+    ensures below { result < bins }
+{
+    bin_in(&bins_hash(key, digest), i, bins)
+}
+
+/// The bins at index 1, 2 and 3 of an item with this digest, from one hash: each is the answer of
+/// `bin_of`.
+#[tactic(auto, unfolding(psi_spec::specs::Formulas::bin))]
+pub fn candidates(key: &[u8; 16], digest: &[u8; 32], bins: u32) -> [u32; 3]
+    requires { 1 ≤ bins }
+    ensures bins { result ≡ bin key.now bins 1 digest.now ∷ bin key.now bins 2 digest.now
+        ∷ bin key.now bins 3 digest.now ∷ [] }
+    ensures below { All (λ candidate. candidate < bins) result }
+{
+    let hash = bins_hash(key, digest);
+    [
+        bin_in(&hash, 1, bins),
+        bin_in(&hash, 2, bins),
+        bin_in(&hash, 3, bins),
+    ]
 }
 
 /// Fills `out`, of 1 to 16 bytes, with the tag of that many bytes of a word at a row.

@@ -1,11 +1,12 @@
-//! The words of 512 bits of a session, the codes of items and the tags of words.
+//! The codes and bins of items, the tags of words, and the columns that hide codes. No call takes memory.
 #![tactic(auto)]
 
+mod columns;
 mod formulas;
-mod words;
 
-pub use formulas::{Tag, code, own_tag, peer_tag, tag_into};
-pub use words::Word512;
+pub use columns::{mask, open_column};
+pub use formulas::{Tag, bin_of, candidates, code, own_tag, peer_tag, tag_into};
+pub use psi_bits::Word512;
 
 #[cfg(test)]
 mod tests;

@@ -1,5 +1,7 @@
 //! Values that were computed by other programs.
-use crate::{Word512, code, own_tag, peer_tag, tag_into};
+use crate::{bin_of, candidates, code, mask, open_column, own_tag, peer_tag, tag_into};
+use psi_base::NoMemory;
+use psi_bits::{Columns, Rows, Word512};
 
 // The key of a deal, and the digest of an item.
 const KEY: [u8; 16] = [
@@ -35,6 +37,25 @@ fn codes_begin_as_computed_elsewhere(rt: HostRuntime) {
 }
 
 #[test]
+fn bins_are_as_computed_elsewhere(rt: HostRuntime) {
+    for (bins, want) in [
+        (1, [0, 0, 0]),
+        (4, [3, 3, 1]),
+        (1_258_292, [1_047_459, 827_143, 374_637]),
+        (u32::MAX, [3_605_232_288, 2_934_436_279, 860_140_662]),
+    ] {
+        assert_eq!(rt; candidates(&KEY, &DIGEST, bins), want, "of {bins} bins");
+        for (i, bin) in [(1, want[0]), (2, want[1]), (3, want[2])] {
+            assert_eq!(rt;
+                bin_of(&KEY, i, &DIGEST, bins),
+                bin,
+                "at index {i} of {bins} bins"
+            );
+        }
+    }
+}
+
+#[test]
 fn tags_are_as_computed_elsewhere(rt: HostRuntime) {
     let zero = Word512::zero();
     assert_eq!(rt; own_tag(&KEY, 16, 5, &zero), TAG);
@@ -55,11 +76,23 @@ fn what_choice_and_code_share_is_flipped(rt: HostRuntime) {
 }
 
 #[test]
-fn one_bit_stands_alone(rt: HostRuntime) {
+fn a_masked_column_is_opened(rt: HostRuntime) -> Result<(), NoMemory> {
+    let mut a0 = Columns::zero(rt.alloc(), 9)?;
+    let mut a1 = Columns::zero(rt.alloc(), 9)?;
+    let mut out = Columns::zero(rt.alloc(), 9)?;
+    let mut codes = Rows::with_rows(rt.alloc(), 9)?;
     let mut bytes = [0; 64];
     bytes[37] = 0x20;
     let word = Word512::from_bytes(&bytes);
-    for c in 0..512 {
-        assert_eq!(rt; word.bit(c), c == 301, "at bit {c}");
-    }
+    *codes.row_mut(8) = word;
+    assert_eq!(rt; a0.set_column(301, &[0x0f, 0]), Ok(()));
+    assert_eq!(rt; a1.set_column(301, &[0x3c, 0]), Ok(()));
+    mask(&a0, &a1, &codes, &mut out);
+    assert_eq!(rt; out.column(301), [0x33, 1].as_slice());
+    assert_eq!(rt; out.column(300), [0, 0].as_slice());
+    open_column(&mut a0, &Word512::zero(), 301, out.column(301));
+    assert_eq!(rt; a0.column(301), [0x0f, 0].as_slice());
+    open_column(&mut a1, &word, 301, out.column(301));
+    assert_eq!(rt; a1.column(301), [0x0f, 1].as_slice());
+    Ok(())
 }

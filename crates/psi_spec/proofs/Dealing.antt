@@ -1,5 +1,5 @@
 -- The sizes of dealt pairs, and the setup that they make.
-use Rattle.std.proofs.Common.{◌≡◌, ◌+◌, ◌*◌, ◌<◌, ◌≤◌, ℕ, suc, zero, cond, All, List, [], ◌∷◌, ◌++◌, length, map, take, drop, nat_eq, get_or, slice_get, Some, refl, sym, ap, ◌∙◌, subst, arith}
+use Rattle.std.proofs.Common.{◌≡◌, ◌+◌, ◌*◌, ◌^◌, ◌<◌, ◌≤◌, ℕ, Bool, true, false, suc, zero, cond, All, List, [], ◌∷◌, ◌++◌, length, map, take, drop, nat_eq, get_or, slice_get, Some, refl, sym, ap, ◌∙◌, subst, arith}
 use Rattle.std.specs.List.{AllByRecursion}
 use Rattle.std.proofs.lemmas.List.{length-drop, length-map, length-take-le, drop-drop, get_or-map}
 use Rattle.std.proofs.lemmas.Option.{get_or_from_slice_get}
@@ -8,10 +8,10 @@ use Rattle.std.proofs.lemmas.Slice.Zip.{AllZip-long}
 use Rattle.psi_spec.specs.Limits.{bins_for, rows_for}
 use Rattle.psi_spec.specs.Bits.{bit_of}
 use Rattle.psi_spec.specs.Columns.{key_stream, column, row_of}
-use Rattle.psi_spec.specs.Deals.{SeedPair, ReceiverDeal, SenderDeal, seed_pairs, chosen_from, deal_bytes, dealt_receiver, dealt_sender, zero_columns, one_columns}
+use Rattle.psi_spec.specs.Deals.{SeedPair, ReceiverDeal, SenderDeal, HasSeeds, chosen_seed, IsReceiverDeal, IsSenderDeal, fits_tag_length, fits_stash, seed_pairs, chosen_from, deal_bytes, dealt_receiver, dealt_sender, zero_columns, one_columns}
 use Rattle.psi_spec.specs.Placement.{Slot, MayHave, IsPlacementOf, candidates_of, stash_slots}
 use Rattle.psi_spec.specs.Meeting.{IsSetup, placed_of, setup_of}
-use Rattle.psi_spec.specs.Laws.{DealsShowCommon, StashShowsCommon}
+use Rattle.psi_spec.specs.Laws.{DealtArePairs, DealsShowCommon, StashShowsCommon}
 use Rattle.psi_spec.proofs.KeyStream.{length-key_stream, bit_of-column}
 use Rattle.psi_spec.proofs.Packing.{bit_of-row_of, row_of_agree}
 use Rattle.psi_spec.proofs.Meeting.{shows_common}
@@ -60,11 +60,7 @@ seed_pairs-more (suc n) bytes =
     ∙ (ap (λ (rest : List SeedPair). pair_from bytes 0 ∷ rest) (seed_pairs-more n (drop 64 bytes))
     ∙ ap (λ (pair : SeedPair). pair_from bytes 0 ∷ seed_pairs n (drop 64 bytes) ++ pair ∷ []) (pair_from-drop bytes 64 (64 * n) ∙ ap (pair_from bytes) place))
 
--- a pair of seeds of 32 bytes
-abbrev pub HasSeeds : SeedPair → Type 0
-HasSeeds pair = (length pair.zero ≡ 32) × (length pair.one ≡ 32)
-
-each_has_seeds : (n : ℕ) (bytes : List ℕ) → 64 * n ≤ length bytes → AllByRecursion HasSeeds (seed_pairs n bytes)
+pub each_has_seeds : (n : ℕ) (bytes : List ℕ) → 64 * n ≤ length bytes → AllByRecursion HasSeeds (seed_pairs n bytes)
 unfolding seed_pairs
 each_has_seeds zero bytes l = tt
 each_has_seeds (suc n) bytes l =
@@ -77,24 +73,20 @@ pub length-chosen_from : (choice : List ℕ) (c : ℕ) (pairs : List SeedPair) �
 length-chosen_from choice c [] = refl
 length-chosen_from choice c (pair ∷ pairs) = ap suc (length-chosen_from choice (c + 1) pairs)
 
--- of a pair the seed that a bit chooses
-abbrev pub seed_at : List ℕ → ℕ → SeedPair → List ℕ
-seed_at choice c pair = cond (nat_eq (bit_of choice c) 0) pair.zero pair.one
-
-pub get_or-chosen_from : (choice : List ℕ) (c : ℕ) (pairs : List SeedPair) (i : ℕ) (seed : List ℕ) (pair : SeedPair) → i < length pairs → get_or (chosen_from choice c pairs) i seed ≡ seed_at choice (c + i) (get_or pairs i pair)
+pub get_or-chosen_from : (choice : List ℕ) (c : ℕ) (pairs : List SeedPair) (i : ℕ) (seed : List ℕ) (pair : SeedPair) → i < length pairs → get_or (chosen_from choice c pairs) i seed ≡ chosen_seed (bit_of choice (c + i)) (get_or pairs i pair)
 get_or-chosen_from choice c [] i seed pair l = absurd (omega arith)
-get_or-chosen_from choice c (first ∷ pairs) zero seed pair l = let place : c ≡ c + 0 = omega arith in ap (λ (k : ℕ). seed_at choice k first) place
+get_or-chosen_from choice c (first ∷ pairs) zero seed pair l = let place : c ≡ c + 0 = omega arith in ap (λ (k : ℕ). chosen_seed (bit_of choice k) first) place
 get_or-chosen_from choice c (first ∷ pairs) (suc i) seed pair l =
     let place : c + 1 + i ≡ c + suc i = omega arith in
-    get_or-chosen_from choice (c + 1) pairs i seed pair (omega arith) ∙ ap (λ (k : ℕ). seed_at choice k (get_or pairs i pair)) place
+    get_or-chosen_from choice (c + 1) pairs i seed pair (omega arith) ∙ ap (λ (k : ℕ). chosen_seed (bit_of choice k) (get_or pairs i pair)) place
 
 -- one more chosen seed, as at a step of a loop
-pub chosen_from-push : (choice : List ℕ) (c : ℕ) (pairs : List SeedPair) (pair : SeedPair) → chosen_from choice c (pairs ++ pair ∷ []) ≡ chosen_from choice c pairs ++ seed_at choice (c + length pairs) pair ∷ []
-chosen_from-push choice c [] pair = let place : c ≡ c + 0 = omega arith in ap (λ (k : ℕ). seed_at choice k pair ∷ []) place
+pub chosen_from-push : (choice : List ℕ) (c : ℕ) (pairs : List SeedPair) (pair : SeedPair) → chosen_from choice c (pairs ++ pair ∷ []) ≡ chosen_from choice c pairs ++ chosen_seed (bit_of choice (c + length pairs)) pair ∷ []
+chosen_from-push choice c [] pair = let place : c ≡ c + 0 = omega arith in ap (λ (k : ℕ). chosen_seed (bit_of choice k) pair ∷ []) place
 chosen_from-push choice c (first ∷ pairs) pair =
     let place : c + 1 + length pairs ≡ c + suc (length pairs) = omega arith in
-    ap (λ (rest : List (List ℕ)). seed_at choice c first ∷ rest) (chosen_from-push choice (c + 1) pairs pair)
-    ∙ ap (λ (k : ℕ). seed_at choice c first ∷ chosen_from choice (c + 1) pairs ++ seed_at choice k pair ∷ []) place
+    ap (λ (rest : List (List ℕ)). chosen_seed (bit_of choice c) first ∷ rest) (chosen_from-push choice (c + 1) pairs pair)
+    ∙ ap (λ (k : ℕ). chosen_seed (bit_of choice c) first ∷ chosen_from choice (c + 1) pairs ++ chosen_seed (bit_of choice k) pair ∷ []) place
 
 -- ---- the dealt pair
 
@@ -118,48 +110,74 @@ pub record IsDealtSender (deal : SenderDeal) : Type 0 where
 length_front : (seed : List ℕ) (at size : ℕ) → at + size ≤ 32864 → length (take size (drop at (deal_bytes seed))) ≡ size
 length_front seed at size l = length-take-le size (drop at (deal_bytes seed)) (omega (arith, length-drop at (deal_bytes seed), length-deal_bytes seed))
 
-pub dealt_receiver_sizes : (seed : List ℕ) (session tag_length : ℕ) → IsDealtReceiver (dealt_receiver seed session tag_length)
+pub dealt_receiver_sizes : (seed : List ℕ) (session tag_length stash : ℕ) → IsDealtReceiver (dealt_receiver seed session tag_length stash)
 unfolding dealt_receiver
-dealt_receiver_sizes seed session tag_length = record {
+dealt_receiver_sizes seed session tag_length stash = record {
   id = length_front seed 0 16 (omega arith);
   key = length_front seed 16 16 (omega arith);
   count = length-seed_pairs 512 (drop 96 (deal_bytes seed));
   seeds = seed_pairs_have_seeds 512 (drop 96 (deal_bytes seed)) (omega (arith, length-drop 96 (deal_bytes seed), length-deal_bytes seed));
 }
 
-pub dealt_sender_sizes : (seed : List ℕ) (session tag_length : ℕ) → IsDealtSender (dealt_sender seed session tag_length)
+pub dealt_sender_sizes : (seed : List ℕ) (session tag_length stash : ℕ) → IsDealtSender (dealt_sender seed session tag_length stash)
 unfolding dealt_sender
-dealt_sender_sizes seed session tag_length = record {
+dealt_sender_sizes seed session tag_length stash = record {
   id = length_front seed 0 16 (omega arith);
   key = length_front seed 16 16 (omega arith);
   choice = length_front seed 32 64 (omega arith);
   count = length-chosen_from (take 64 (drop 32 (deal_bytes seed))) 0 (seed_pairs 512 (drop 96 (deal_bytes seed))) ∙ length-seed_pairs 512 (drop 96 (deal_bytes seed));
 }
 
--- the two halves of a dealt pair hold the same name, session, key and tag length
-pub record AreAlike (receiver : ReceiverDeal) (sender : SenderDeal) : Type 0 where
-  pub id : receiver.id ≡ sender.id
-  pub session : receiver.session ≡ sender.session
-  pub key : receiver.key ≡ sender.key
-  pub tag_length : receiver.tag_length ≡ sender.tag_length
-
-pub dealt_alike : (seed : List ℕ) (session tag_length : ℕ) → AreAlike (dealt_receiver seed session tag_length) (dealt_sender seed session tag_length)
-unfolding dealt_receiver dealt_sender
-dealt_alike seed session tag_length = record { id = refl; session = refl; key = refl; tag_length = refl }
-
--- and the session and the tag length are those that the dealer was given
-pub dealt_session : (seed : List ℕ) (session tag_length : ℕ) → (dealt_receiver seed session tag_length).session ≡ session
+-- with a session, a tag length and stash rows in range, both halves are deals
+pub dealt_receiver_is : (seed : List ℕ) (session tag_length stash : ℕ) → session < 2 ^ 64 → fits_tag_length tag_length ≡ true → fits_stash stash ≡ true → IsReceiverDeal (dealt_receiver seed session tag_length stash)
 unfolding dealt_receiver
-dealt_session seed session tag_length = refl
+dealt_receiver_is seed session tag_length stash l g s =
+    let sizes = dealt_receiver_sizes seed session tag_length stash in
+    record { id = sizes.id; session = l; key = sizes.key; tag_length = g; stash = s; count = sizes.count; seeds = sizes.seeds }
 
-pub dealt_tag_length : (seed : List ℕ) (session tag_length : ℕ) → (dealt_receiver seed session tag_length).tag_length ≡ tag_length
-unfolding dealt_receiver
-dealt_tag_length seed session tag_length = refl
+chosen_seeds_long : (choice : List ℕ) (c : ℕ) (pairs : List SeedPair) → AllByRecursion HasSeeds pairs → AllByRecursion (λ seed. length seed ≡ 32) (chosen_from choice c pairs)
+chosen_seeds_long choice c [] h = tt
+chosen_seeds_long choice c (pair ∷ pairs) h = (by_case (nat_eq (bit_of choice c) 0), chosen_seeds_long choice (c + 1) pairs h.1)
+  where
+    by_case : (b : Bool) → length (cond b pair.zero pair.one) ≡ 32
+    by_case true = h.0.0
+    by_case false = h.0.1
 
--- the sender has of each pair of the receiver the seed that the choice names
-pub dealt_chosen : (seed : List ℕ) (session tag_length : ℕ) → (dealt_sender seed session tag_length).chosen ≡ chosen_from (dealt_sender seed session tag_length).choice 0 (dealt_receiver seed session tag_length).seeds
+pub dealt_sender_is : (seed : List ℕ) (session tag_length stash : ℕ) → session < 2 ^ 64 → fits_tag_length tag_length ≡ true → fits_stash stash ≡ true → IsSenderDeal (dealt_sender seed session tag_length stash)
+unfolding dealt_sender
+dealt_sender_is seed session tag_length stash l g s =
+    let sizes = dealt_sender_sizes seed session tag_length stash in
+    let choice : List ℕ = take 64 (drop 32 (deal_bytes seed)) in
+    let bytes : List ℕ = drop 96 (deal_bytes seed) in
+    record {
+      id = sizes.id;
+      session = l;
+      key = sizes.key;
+      tag_length = g;
+      stash = s;
+      choice = sizes.choice;
+      count = sizes.count;
+      chosen = All-from_recursion (λ seed. length seed ≡ 32) (chosen_from choice 0 (seed_pairs 512 bytes))
+          (chosen_seeds_long choice 0 (seed_pairs 512 bytes) (each_has_seeds 512 bytes (omega (arith, length-drop 96 (deal_bytes seed), length-deal_bytes seed))));
+    }
+
+-- the two halves of a dealt pair are a pair
+pub dealt_are_pairs : DealtArePairs
 unfolding dealt_receiver dealt_sender
-dealt_chosen seed session tag_length = refl
+dealt_are_pairs seed session tag_length stash = record { id = refl; session = refl; key = refl; tag_length = refl; stash = refl; chosen = refl }
+
+-- and the session, the tag length and the stash rows are those that the dealer was given
+pub dealt_session : (seed : List ℕ) (session tag_length stash : ℕ) → (dealt_receiver seed session tag_length stash).session ≡ session
+unfolding dealt_receiver
+dealt_session seed session tag_length stash = refl
+
+pub dealt_tag_length : (seed : List ℕ) (session tag_length stash : ℕ) → (dealt_receiver seed session tag_length stash).tag_length ≡ tag_length
+unfolding dealt_receiver
+dealt_tag_length seed session tag_length stash = refl
+
+pub dealt_stash : (seed : List ℕ) (session tag_length stash : ℕ) → (dealt_receiver seed session tag_length stash).stash ≡ stash
+unfolding dealt_receiver
+dealt_stash seed session tag_length stash = refl
 
 -- ---- columns of a deal
 
@@ -175,8 +193,8 @@ get_or-zero_columns deal rows c pair d l = get_or-map (λ pair. column pair.zero
 pub get_or-one_columns : (deal : ReceiverDeal) (rows c : ℕ) (pair : SeedPair) (d : List ℕ) → c < length deal.seeds → get_or (one_columns deal rows) c d ≡ column (get_or deal.seeds c pair).one deal.session rows
 get_or-one_columns deal rows c pair d l = get_or-map (λ pair. column pair.one deal.session rows) deal.seeds c pair d l
 
-pub length-dealt_zero_columns : (seed : List ℕ) (session tag_length rows : ℕ) → length (zero_columns (dealt_receiver seed session tag_length) rows) ≡ 512
-length-dealt_zero_columns seed session tag_length rows = length-zero_columns (dealt_receiver seed session tag_length) rows ∙ (dealt_receiver_sizes seed session tag_length).count
+pub length-dealt_zero_columns : (seed : List ℕ) (session tag_length stash rows : ℕ) → length (zero_columns (dealt_receiver seed session tag_length stash) rows) ≡ 512
+length-dealt_zero_columns seed session tag_length stash rows = length-zero_columns (dealt_receiver seed session tag_length stash) rows ∙ (dealt_receiver_sizes seed session tag_length stash).count
 
 -- the first n bytes of the key stream of each zero seed
 abbrev pub zero_streams : ReceiverDeal → ℕ → List (List ℕ)
@@ -215,9 +233,9 @@ placed_setup stash receiver sender items slots seeds choice placement =
     }
 
 -- a placement of the items makes a setup of a dealt pair
-pub dealt_placed_setup : (stash : ℕ) (seed : List ℕ) (session tag_length : ℕ) (items : List (List ℕ)) (slots : List Slot) → IsPlacementOf stash (dealt_receiver seed session tag_length).key (bins_for (length items)) items slots → IsSetup stash (setup_of stash (dealt_receiver seed session tag_length) (dealt_sender seed session tag_length) items slots)
+pub dealt_placed_setup : (stash : ℕ) (seed : List ℕ) (session tag_length : ℕ) (items : List (List ℕ)) (slots : List Slot) → IsPlacementOf stash (dealt_receiver seed session tag_length stash).key (bins_for (length items)) items slots → IsSetup stash (setup_of stash (dealt_receiver seed session tag_length stash) (dealt_sender seed session tag_length stash) items slots)
 dealt_placed_setup stash seed session tag_length items slots =
-    placed_setup stash (dealt_receiver seed session tag_length) (dealt_sender seed session tag_length) items slots (dealt_receiver_sizes seed session tag_length).count (dealt_sender_sizes seed session tag_length).choice
+    placed_setup stash (dealt_receiver seed session tag_length stash) (dealt_sender seed session tag_length stash) items slots (dealt_receiver_sizes seed session tag_length stash).count (dealt_sender_sizes seed session tag_length stash).choice
 
 -- items that the stash can hold
 pub stash_placement : (stash : ℕ) (key : List ℕ) (bins : ℕ) (items : List (List ℕ)) → length items ≤ stash → IsPlacementOf stash key bins items (stash_slots bins (length items))
@@ -225,19 +243,19 @@ stash_placement stash key bins items l =
     let long : length (map (candidates_of key bins) items) ≡ length items = length-map items (candidates_of key bins) in
     subst (λ (n : ℕ). IsPlacementOf stash key bins items (stash_slots bins n)) long (stash_slots_placement stash bins (map (candidates_of key bins) items) (omega arith))
 
-pub dealt_setup : (stash : ℕ) (seed : List ℕ) (session tag_length : ℕ) (items : List (List ℕ)) → length items ≤ stash → IsSetup stash (setup_of stash (dealt_receiver seed session tag_length) (dealt_sender seed session tag_length) items (stash_slots (bins_for (length items)) (length items)))
+pub dealt_setup : (stash : ℕ) (seed : List ℕ) (session tag_length : ℕ) (items : List (List ℕ)) → length items ≤ stash → IsSetup stash (setup_of stash (dealt_receiver seed session tag_length stash) (dealt_sender seed session tag_length stash) items (stash_slots (bins_for (length items)) (length items)))
 dealt_setup stash seed session tag_length items l =
     dealt_placed_setup stash seed session tag_length items (stash_slots (bins_for (length items)) (length items))
-    (stash_placement stash (dealt_receiver seed session tag_length).key (bins_for (length items)) items l)
+    (stash_placement stash (dealt_receiver seed session tag_length stash).key (bins_for (length items)) items l)
 
 -- ---- what is shown of a dealt pair
 
 pub deals_show_common : DealsShowCommon
 deals_show_common stash seed session tag_length xs ys slots placement =
-    shows_common stash (setup_of stash (dealt_receiver seed session tag_length) (dealt_sender seed session tag_length) xs slots) ys
+    shows_common stash (setup_of stash (dealt_receiver seed session tag_length stash) (dealt_sender seed session tag_length stash) xs slots) ys
     (dealt_placed_setup stash seed session tag_length xs slots placement)
 
 pub stash_shows_common : StashShowsCommon
 stash_shows_common stash seed session tag_length xs ys l =
-    shows_common stash (setup_of stash (dealt_receiver seed session tag_length) (dealt_sender seed session tag_length) xs (stash_slots (bins_for (length xs)) (length xs))) ys
+    shows_common stash (setup_of stash (dealt_receiver seed session tag_length stash) (dealt_sender seed session tag_length stash) xs (stash_slots (bins_for (length xs)) (length xs))) ys
     (dealt_setup stash seed session tag_length xs l)

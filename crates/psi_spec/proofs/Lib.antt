@@ -1,12 +1,17 @@
 pub mod Xor
 pub mod Packing
+pub mod Bytes
 pub mod Sizes
 pub mod Tags
 pub mod Lists
 pub mod Placing
 pub mod Meeting
 pub mod KeyStream
+pub mod Clean
+pub mod ColumnSets
 pub mod Dealing
+pub mod DealFiles
 pub mod Comparing
 pub mod Printing
 pub mod Crowding
+pub mod Frames

@@ -1,5 +1,5 @@
 -- Bits of bytes, and the words that bits make.
-use Rattle.std.specs.Prelude.{ℕ, ◌+◌, ◌*◌, ◌/◌, ◌%◌, List, [], ◌∷◌, length, replicate, slice_index, drop, zero, suc, bit_xor, bit_and}
+use Rattle.std.specs.Prelude.{◌≡◌, ◌<◌, ℕ, ◌+◌, ◌*◌, ◌/◌, ◌%◌, ◌^◌, List, [], ◌∷◌, length, replicate, slice_index, drop, zero, suc, bit_xor, bit_and}
 use Rattle.std.specs.Int.{bit_at}
 use Rattle.std.specs.Simd.Lanes.{zip2}
 
@@ -14,6 +14,11 @@ xor = zip2 bit_xor
 -- the bits that two byte lists both have, as long as the shorter one
 abbrev pub both : List ℕ → List ℕ → List ℕ
 both = zip2 bit_and
+
+-- a word of 512 bits: 64 bytes
+pub record IsWord (word : List ℕ) : Type 0 where
+  pub size : length word ≡ 64
+  pub bytes : (i : ℕ) → slice_index word i < 2 ^ 8
 
 -- the word of 512 zero bits
 unfoldable pub zero_word : List ℕ

@@ -1,4 +1,4 @@
--- The key stream of ChaCha20 by the block function of RFC 8439, section 2.3, and the columns that it fills.
+-- The key stream of ChaCha20 by the block function of RFC 8439, section 2.3, the columns that it fills, and their rows.
 use Rattle.std.specs.Prelude.{ℕ, ◌+◌, ◌/◌, ◌%◌, ◌^◌, ◌==◌, List, map, slice_index, slice_set, if◌then◌else◌}
 use Rattle.rand_core.specs.Steps.{fill_via_u32}
 use Rattle.rand_chacha.specs.ChaCha.{key_of, next_word}
@@ -23,6 +23,10 @@ cleared rows bytes =
 unfoldable pub column : List ℕ → ℕ → ℕ → List ℕ
 column seed session rows = cleared rows (key_stream seed session (column_bytes rows))
 
+-- bit j of each column
+abbrev pub bits_at : List (List ℕ) → ℕ → List ℕ
+bits_at columns j = map (λ column. bit_of column j) columns
+
 -- row j of 512 columns: the word whose bit c is bit j of column c
 unfoldable pub row_of : List (List ℕ) → ℕ → List ℕ
-row_of columns j = packed (map (λ column. bit_of column j) columns)
+row_of columns j = packed (bits_at columns j)

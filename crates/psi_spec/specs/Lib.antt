@@ -3,10 +3,14 @@ pub mod Bits
 pub mod Items
 pub mod Formulas
 pub mod Columns
+pub mod Matrices
+pub mod ColumnSets
 pub mod Deals
+pub mod DealFiles
 pub mod Placement
 pub mod CrowdedLists
 pub mod Meeting
+pub mod Frames
 pub mod Texts
 pub mod Words
 pub mod Laws

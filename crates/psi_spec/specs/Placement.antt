@@ -19,10 +19,6 @@ pub record IsPlacement (stash bins : ℕ) (candidates : List (List ℕ)) (slots 
   pub each : AllZip (MayHave stash bins) candidates slots
   pub apart : IsDistinct nat_eq (map (λ slot. slot.row) slots)
 
--- there is a placement of items with these candidates
-abbrev pub HasPlacement : ℕ → ℕ → List (List ℕ) → Type 0
-HasPlacement stash bins candidates = (slots : List Slot) × IsPlacement stash bins candidates slots
-
 -- the three candidates of an item
 abbrev pub candidates_of : List ℕ → ℕ → List ℕ → List ℕ
 candidates_of key bins item =

@@ -1,6 +1,52 @@
 //! Laws of the definitions. Each function does nothing: its contract is the law.
 
-ghost use Rattle.psi_spec.specs.Laws.{SetupsShowCommon, DealsShowCommon, StashShowsCommon, CrowdedExcludesPlacement};
+ghost use Rattle.psi_spec.specs.Laws.{
+  RowsTurnColumns,
+  ColumnsTurnBack,
+  ColumnsAreClean,
+  PaddingIsSeen,
+  OpensColumns,
+  OpensRows,
+  DealtArePairs,
+  ReceiverFilesReadBack,
+  SenderFilesReadBack,
+  SetupsShowCommon,
+  DealsShowCommon,
+  StashShowsCommon,
+  CrowdedExcludesPlacement,
+};
+
+/// Bit c of row j of columns is bit j of column c, and turning the rows gives the columns again.
+pub fn rows_turn_columns()
+    ensures bits { RowsTurnColumns }
+    ensures back { ColumnsTurnBack }
+{}
+
+/// A column of the key stream has its size and the stream's bits, and no bit past its rows is set. Bytes of that size
+/// have no padding bit set exactly where they have no such bit.
+pub fn columns_are_clean()
+    ensures clean { ColumnsAreClean }
+    ensures seen { PaddingIsSeen }
+{}
+
+/// Each row that a sender opens is its row of chosen columns, xor what the choice word and the row of the columns that
+/// came share. Where those columns are the chosen and the masked ones of one pair of column sets, for any row words, it
+/// is the row of the zero columns, xor what the choice word and the row's word share.
+pub fn opens_rows()
+    ensures columns { OpensColumns }
+    ensures rows { OpensRows }
+{}
+
+/// The two deals of a seed are a pair.
+pub fn dealt_are_pairs()
+    ensures { DealtArePairs }
+{}
+
+/// The file of a deal spells that deal.
+pub fn deal_files_read_back()
+    ensures receiver { ReceiverFilesReadBack }
+    ensures sender { SenderFilesReadBack }
+{}
 
 /// Each item that both ends have is shown, and each item that is shown shares its tag with the item that it names.
 pub fn shows_common()

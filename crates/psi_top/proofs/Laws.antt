@@ -1,305 +1,283 @@
--- The promises that follow from `Answers`.
-use Rattle.std.proofs.Common.{◌≡◌, ◌<◌, ◌≤◌, ◌++◌, ℕ, Bool, true, false, List, [], length, map, take, nat_lt, Option, Some, None, refl, sym, ap, ◌∙◌, subst, arith, if◌then◌else◌}
-use Rattle.std.specs.Option.{option_map, option_map_or}
-use Rattle.std.specs.List.{Contains}
+-- The promises that follow from `Answers`, for every command.
+use Rattle.std.proofs.Common.{◌≡◌, ◌==◌, ◌⊎◌, inl, inr, ℕ, Bool, IsTrue, true, false, List, [], ◌∷◌, length, slice_get, Option, Some, None, refl, sym, ap, ◌∙◌, subst, arith, unwrap_or, if◌then◌else◌}
 use Rattle.std.proofs.lemmas.Bool.Decides.{nat_tests}
-use Rattle.std.proofs.lemmas.List.{append-nil, take_all}
-use Rattle.psi_spec.specs.Items.{BadLine, first_bad, items_of}
-use Rattle.psi_spec.specs.Limits.{bins_for, file_limit, usual_stash}
-use Rattle.psi_spec.specs.Meeting.{IsSetup, ShowsCommon, shown}
-use Rattle.psi_spec.specs.Placement.{stash_slots}
-use Rattle.psi_spec.specs.Texts.{lines_text}
-use Rattle.psi_spec.specs.Words.{bad_word, number_of, seed_of, word_at}
-use Rattle.psi_spec.proofs.Dealing.{dealt_setup}
-use Rattle.psi_spec.proofs.Meeting.{shows_common}
-use Rattle.psi_spec.proofs.Placing.{items_of-placed_of, length-stash_slots}
-use Rattle.psi_base.specs.Outside.{Outside, Files}
-use Rattle.psi_items.specs.Reading.{bad_items_of}
+use Rattle.psi_spec.specs.CrowdedLists.{IsCrowded, touched_by}
+use Rattle.psi_spec.specs.Placement.{Slot, IsPlacement}
+use Rattle.psi_spec.specs.Words.{bad_word}
+use Rattle.psi_spec.proofs.Crowding.{no_placement}
+use Rattle.psi_base.specs.Outside.{Known, Outside, Files, Rose}
+use Rattle.psi_top.specs.Commands.{Answers, AnswersBy, tree_of}
+use Rattle.psi_top.specs.Dialogue.{Dialogue, Reading, talked}
+use Rattle.psi_top.specs.Due.{Contents, Due, lacks, long, refusal, unplaced, reached, due, told, without, judged, heard}
 use Rattle.psi_top.specs.Form.{command_of}
-use Rattle.psi_top.specs.Local.{local_setup, local_text, most_local}
-use Rattle.psi_top.specs.Answers.{Answers, AnswersBy, Contents, Due, HasItems, lacks, long, refused, prints, Follows, FollowsTold, HasCause, due_of, judged, local_due, local_rest, text_of, told}
-use Rattle.psi_top.specs.Promises.{HasBoth, IsBadWords, IsCaused, IsDue, IsSized, KeepsRest, LocalIsSized, LocalPrintsShown, OnDue, PrintsFront}
+use Rattle.psi_top.specs.Promises.{Completes, CountsBy, DoneLeaves, IsAnswered, IsBadWords, IsCalm, IsCounted, IsDue, IsOfCommand, IsOfEffect, IsReady, IsStoppedAt, IsWhatIsDue, Leaves, OnTold, RunsThrough, Stands, StandsAt}
+use Rattle.psi_top.specs.Tree.{Effect, says, puts, Placing, Tree, reads, refuses, places, opens, talks, ends, End}
+use Rattle.psi_top.specs.Walk.{IsVerdict, Runs}
 use Rattle.psi_top.specs.declared.form.Command.{Command}
-use Rattle.psi_top.specs.declared.form.Command.TheVariants.{Local}
 use Rattle.psi_top.specs.declared.status.Status.{Status}
-use Rattle.psi_top.specs.declared.status.Status.TheVariants.{Done, BadWords, BadItems, FileFault, PrintFault, TooLong, LargeSet, NoMemory}
+use Rattle.psi_top.specs.declared.status.Status.TheVariants as status
+use Rattle.psi_top.proofs.Answered.{follows_answers}
+use Rattle.psi_top.proofs.Counted.{follows_counted}
+use Rattle.psi_top.proofs.Left.{follows_leaves}
+use Rattle.psi_top.proofs.Placed.{ArePlacements, follows_placed}
+use Rattle.psi_top.proofs.Walked.{OnlyTalked, Early, verdict, unheard, short_of, missing, longer, excluded, unlinked, wanting, Met, early, late, judged_read, follows_met}
 
--- ---- causes
+-- ---- the relation, by the words
 
-caused : (before : Outside) (status : Status) (after : Outside) → HasCause before status after → IsCaused before status after
-caused before Done after h = tt
-caused before (BadWords at) after h = tt
-caused before (BadItems word fault) after h = tt
-caused before (FileFault word) after h = h.rose
-caused before PrintFault after h = h.1.rose
-caused before (TooLong word taken) after h = h.0
-caused before (LargeSet count) after h = h.0
-caused before NoMemory after h = tt
-
-pub answers_caused : (words : List (List ℕ)) (before : Outside) (status : Status) (after : Outside) → Answers words before status after → IsCaused before status after
-answers_caused words before status after = by_words (bad_word words) (command_of words)
+pub follows_told : (known : Known) (words : List (List ℕ)) (before : Outside) (end : End) → Answers known words before end
+    → (command : Command) → bad_word words ≡ None → command_of words ≡ Some command → Runs known words (tree_of command words) before end
+follows_told known words before end answers command fit named = by_words (bad_word words) (command_of words) fit named answers
   where
-    by_words : (bad : Option ℕ) (command : Option Command) → AnswersBy words before status after bad command → IsCaused before status after
-    by_words (Some at) command h = subst (λ (s : Status). IsCaused before s after) (sym h.0) tt
+    by_words : (place : Option ℕ) (named : Option Command) → place ≡ None → named ≡ Some command → AnswersBy known words before end place named
+        → Runs known words (tree_of command words) before end
+    by_words place named b n h = let f : AnswersBy known words before end None (Some command) = rw (b, n) at h in f
+
+-- what a run met and counted, where the outside is told
+met_told : (known : Known) (words : List (List ℕ)) (before : Outside) (end : End) → Answers known words before end → (P : (Contents → Due) → Contents → Type 0)
+    → ((d : Contents → Due) (contents : Contents) → IsCounted words before end.status end.left → Met words d contents before end.status end.left → P d contents)
+    → OnTold words before end.placed P
+met_told known words before end answers P law = λ files incoming command is coming fit named.
+    let h = follows_told known words before end answers command fit named in
+    law (λ c. due c before end.placed (tree_of command words)) (told files words) (follows_counted known words false (tree_of command words) before end h)
+    (follows_met known words false (tree_of command words) files incoming before end is coming h)
+
+-- ---- counts and words
+
+pub answers_counted : (known : Known) (words : List (List ℕ)) (before : Outside) (end : End) → Answers known words before end
+    → CountsBy words before end.status end.left (bad_word words)
+answers_counted known words before end = by_words (bad_word words) (command_of words)
+  where
+    by_words : (place : Option ℕ) (command : Option Command) → AnswersBy known words before end place command → CountsBy words before end.status end.left place
+    by_words (Some at) command h = ap (λ (d : End). d.left) h
     by_words None None h = absurd h
-    by_words None (Some command) h = caused before status after h.0
+    by_words None (Some command) h = follows_counted known words false (tree_of command words) before end h
 
--- ---- what is due
+-- no step answers `BadWords`
+never_answered : (known : Known) (words : List (List ℕ)) (tree : Tree) (before : Outside) (at : ℕ) → IsAnswered known words tree before (status.BadWords at) → ⊥
+never_answered known words (reads word limit next) before at (inl h) = h
+never_answered known words (reads word limit next) before at (inr h) = never_answered known words (next h.0) before at h.2
+never_answered known words (refuses why) before at (inl e) = cc e
+never_answered known words (refuses why) before at (inr h) = let f : IsVerdict (status.BadWords at) = subst IsVerdict (sym h.0) h.1 in f
+never_answered known words (places word set next) before at (inl h) = h
+never_answered known words (places word set next) before at (inr h) = never_answered known words (next h.0) before at h.2
+never_answered known words (opens next) before at (inl (inl e)) = cc e
+never_answered known words (opens next) before at (inl (inr e)) = cc e
+never_answered known words (opens next) before at (inr h) = never_answered known words next (record before { ready = true }) at h
+never_answered known words (talks d next) before at (inl h) = h
+never_answered known words (talks d next) before at (inr h) = never_answered known words (next h.0) (talked before (d.owes h.0) h.0) at h.3
+never_answered known words (ends wire effects) before at h = h.3
 
--- what a run answered on told files, by what is due
-follows_told : (words : List (List ℕ)) (before : Outside) (status : Status) (after : Outside) → Answers words before status after
-    → (files : Files) (command : Command) → before.files ≡ Some files → bad_word words ≡ None → command_of words ≡ Some command → Follows (due_of command words) (told files words) before status after
-follows_told words before status after answers files command is fit named =
-    let h : HasCause before status after × FollowsTold (due_of command words) words before status after = rw (fit, named) at answers in
-    h.1 files is
+no_bad_words : (known : Known) (words : List (List ℕ)) (tree : Tree) (before : Outside) (why : Status) → IsAnswered known words tree before why → IsBadWords why None
+no_bad_words known words tree before (status.BadWords at) h = absurd (never_answered known words tree before at h)
+no_bad_words known words tree before _ h = refl
 
-is_due : (due : Contents → Due) (contents : Contents) (before : Outside) (status : Status) (after : Outside) → Follows due contents before status after → IsDue status due contents
-is_due due contents before Done after h = (h.0, h.1)
-is_due due contents before (BadWords at) after h = absurd h
-is_due due contents before (BadItems word fault) after h = h.0
-is_due due contents before (FileFault word) after h = h.0
-is_due due contents before PrintFault after h = (h.0, h.2)
-is_due due contents before (TooLong word taken) after h = h.0
-is_due due contents before (LargeSet count) after h = h.0
-is_due due contents before NoMemory after h = tt
-
-nothing_printed : (p : Option (List ℕ)) → option_map (λ (p : List ℕ). p ++ []) p ≡ p
-nothing_printed None = refl
-nothing_printed (Some p) = ap (λ (x : List ℕ). Some x) (append-nil p)
-
-prints_nothing : (before after : Outside) (status : Status) (due : Contents → Due) (contents : Contents) → after.printed ≡ before.printed → (status ≡ Done → ⊥) → PrintsFront before after status due contents
-prints_nothing before after status due contents e not_done = record {
-  count = 0;
-  printed = e ∙ sym (nothing_printed before.printed);
-  whole = λ d. absurd (not_done d);
-}
-
-prints_front : (due : Contents → Due) (contents : Contents) (before : Outside) (status : Status) (after : Outside) → Follows due contents before status after → PrintsFront before after status due contents
-prints_front due contents before Done after h = record {
-  count = length h.0;
-  printed = ap (λ (o : Outside). o.printed) h.2 ∙ ap (λ (t : List ℕ). option_map (λ (p : List ℕ). p ++ t) before.printed) (sym (ap (λ (d : Due). take (length h.0) (text_of d)) h.1 ∙ take_all (length h.0) h.0 (omega arith)));
-  whole = λ d. let e : length (text_of (due contents)) ≡ length h.0 = ap (λ (d : Due). length (text_of d)) h.1 in omega arith;
-}
-prints_front due contents before (BadWords at) after h = absurd h
-prints_front due contents before (BadItems word fault) after h = prints_nothing before after (BadItems word fault) due contents (ap (λ (o : Outside). o.printed) h.1) (λ e. cc e)
-prints_front due contents before (FileFault word) after h = prints_nothing before after (FileFault word) due contents (ap (λ (o : Outside). o.printed) h.1.left) (λ e. cc e)
-prints_front due contents before PrintFault after h = record {
-  count = h.1;
-  printed = ap (λ (o : Outside). o.printed) h.4.left ∙ ap (λ (d : Due). option_map (λ (p : List ℕ). p ++ take h.1 (text_of d)) before.printed) (sym h.2);
-  whole = λ e. absurd (cc e);
-}
-prints_front due contents before (TooLong word taken) after h = prints_nothing before after (TooLong word taken) due contents (ap (λ (o : Outside). o.printed) h.2) (λ e. cc e)
-prints_front due contents before (LargeSet count) after h = prints_nothing before after (LargeSet count) due contents (ap (λ (o : Outside). o.printed) h.1) (λ e. cc e)
-prints_front due contents before NoMemory after h = record {
-  count = h.count;
-  printed = ap (λ (o : Outside). o.printed) h.left;
-  whole = λ e. absurd (cc e);
-}
-
-pub answers_exact : (words : List (List ℕ)) (before : Outside) (status : Status) (after : Outside) → Answers words before status after → OnDue words before (IsDue status)
-answers_exact words before status after h = λ files command is fit named.
-    is_due (due_of command words) (told files words) before status after (follows_told words before status after h files command is fit named)
-
-pub answers_print : (words : List (List ℕ)) (before : Outside) (status : Status) (after : Outside) → Answers words before status after → OnDue words before (PrintsFront before after status)
-answers_print words before status after h = λ files command is fit named.
-    prints_front (due_of command words) (told files words) before status after (follows_told words before status after h files command is fit named)
-
--- ---- what stays
-
-unchanged : (before after : Outside) → after ≡ before → KeepsRest before after
-unchanged before after e = record {
-  files = ap (λ (o : Outside). o.files) e;
-  file_faults = let f = ap (λ (o : Outside). o.file_faults) e in omega arith;
-  print_faults = let f = ap (λ (o : Outside). o.print_faults) e in omega arith;
-  refusals = let f = ap (λ (o : Outside). o.refusals) e in omega arith;
-}
-
-kept : (before : Outside) (status : Status) (after : Outside) → HasCause before status after → KeepsRest before after
-kept before Done after h = record {
-  files = ap (λ (o : Outside). o.files) h.1;
-  file_faults = let f = ap (λ (o : Outside). o.file_faults) h.1 in omega arith;
-  print_faults = let f = ap (λ (o : Outside). o.print_faults) h.1 in omega arith;
-  refusals = let f = ap (λ (o : Outside). o.refusals) h.1 in omega arith;
-}
-kept before (BadWords at) after h = absurd h
-kept before (BadItems word fault) after h = unchanged before after h
-kept before (FileFault word) after h = record {
-  files = ap (λ (o : Outside). o.files) h.left;
-  file_faults = h.rose.no_lower;
-  print_faults = let f = ap (λ (o : Outside). o.print_faults) h.left in omega arith;
-  refusals = let f = ap (λ (o : Outside). o.refusals) h.left in omega arith;
-}
-kept before PrintFault after h = record {
-  files = ap (λ (o : Outside). o.files) h.1.left;
-  file_faults = let f = ap (λ (o : Outside). o.file_faults) h.1.left in omega arith;
-  print_faults = h.1.rose.no_lower;
-  refusals = let f = ap (λ (o : Outside). o.refusals) h.1.left in omega arith;
-}
-kept before (TooLong word taken) after h = unchanged before after h.1
-kept before (LargeSet count) after h = unchanged before after h.1
-kept before NoMemory after h = record {
-  files = ap (λ (o : Outside). o.files) h.1.left;
-  file_faults = let f = ap (λ (o : Outside). o.file_faults) h.1.left in omega arith;
-  print_faults = let f = ap (λ (o : Outside). o.print_faults) h.1.left in omega arith;
-  refusals = h.1.no_lower;
-}
-
-pub answers_keep : (words : List (List ℕ)) (before : Outside) (status : Status) (after : Outside) → Answers words before status after → KeepsRest before after
-answers_keep words before status after = by_words (bad_word words) (command_of words)
+pub answers_bad_words : (known : Known) (words : List (List ℕ)) (before : Outside) (end : End) → Answers known words before end → IsBadWords end.status (bad_word words)
+answers_bad_words known words before end = by_words (bad_word words) (command_of words)
   where
-    by_words : (bad : Option ℕ) (command : Option Command) → AnswersBy words before status after bad command → KeepsRest before after
-    by_words (Some at) command h = unchanged before after h.1
+    by_words : (place : Option ℕ) (command : Option Command) → AnswersBy known words before end place command → IsBadWords end.status place
+    by_words (Some at) command h = subst (λ (d : End). IsBadWords d.status (Some at)) (sym h) refl
     by_words None None h = absurd h
-    by_words None (Some command) h = kept before status after h.0
+    by_words None (Some command) h =
+        no_bad_words known words (tree_of command words) before end.status (follows_answers known words false (tree_of command words) before end h)
 
--- ---- what `local` prints
+pub answers_of_command : (known : Known) (words : List (List ℕ)) (before : Outside) (end : End) → Answers known words before end → IsOfCommand known words before end.status
+answers_of_command known words before end h = λ command fit named.
+    follows_answers known words false (tree_of command words) before end (follows_told known words before end h command fit named)
 
--- what is due only once both files have items
-FromRest : Due → Type 0
-FromRest (lacks word) = ⊥
-FromRest (long word) = ⊥
-FromRest (refused (BadItems word fault)) = ⊥
-FromRest (refused Done) = Unit {0}
-FromRest (refused (BadWords at)) = Unit {0}
-FromRest (refused (FileFault word)) = Unit {0}
-FromRest (refused PrintFault) = Unit {0}
-FromRest (refused (TooLong word taken)) = Unit {0}
-FromRest (refused (LargeSet count)) = Unit {0}
-FromRest (refused NoMemory) = Unit {0}
-FromRest (prints text) = Unit {0}
+-- ---- refusals
 
--- an item file that was read before this was due
-record IsRead (content : Option (List ℕ)) (next : List (List ℕ) → Due) (due : Due) : Type 0 where
-  bytes : List ℕ
-  is : content ≡ Some bytes
-  short : length bytes ≤ file_limit
-  good : first_bad bytes ≡ None
-  rest : next (items_of bytes) ≡ due
+verdict_due : (d : Contents → Due) (contents : Contents) (why : Status) → IsVerdict why → d contents ≡ refusal why → IsDue why d contents
+verdict_due d contents status.Done v h = absurd v
+verdict_due d contents (status.BadWords at) v h = absurd v
+verdict_due d contents (status.NoPlacement word items touched) v h = absurd v
+verdict_due d contents (status.FileFault word) v h = absurd v
+verdict_due d contents status.LinkFault v h = tt
+verdict_due d contents status.PrintFault v h = absurd v
+verdict_due d contents (status.TooLong word taken) v h = absurd v
+verdict_due d contents status.NoMemory v h = tt
+verdict_due d contents why v h = h
 
-judged_rest : (word : ℕ) (content : Option (List ℕ)) (next : List (List ℕ) → Due) (due : Due) → FromRest due → judged word content next ≡ due → IsRead content next due
-unfolding FromRest
-judged_rest word None next due later e = absurd (subst FromRest (sym e) later)
-judged_rest word (Some bytes) next due later e = by_length (nat_lt file_limit (length bytes)) refl e
+early_due : (d : Contents → Due) (contents : Contents) (before : Outside) (why : Status) (after : Outside) → Early d contents before why after → IsDue why d contents
+early_due d contents before why after (verdict v h) = verdict_due d contents why v h
+early_due d contents before why after (unheard frame s h) = subst (λ (x : Status). IsDue x d contents) (sym s) h
+early_due d contents before why after (short_of offset s h) = subst (λ (x : Status). IsDue x d contents) (sym s) h
+early_due d contents before why after (missing word s h rose steady) = subst (λ (x : Status). IsDue x d contents) (sym s) (inl h)
+early_due d contents before why after (longer word taken bytes s h there within) = subst (λ (x : Status). IsDue x d contents) (sym s) (h, (bytes, there, within))
+early_due d contents before why after (excluded word set items s h c) = subst (λ (x : Status). IsDue x d contents) (sym s) (set, h, c, refl)
+early_due d contents before why after (unlinked s rose unsteady) = subst (λ (x : Status). IsDue x d contents) (sym s) tt
+early_due d contents before why after (wanting s) = subst (λ (x : Status). IsDue x d contents) (sym s) tt
+
+late_due : (d : Contents → Due) (contents : Contents) (mid : Outside) (effects : List Effect) (why : Status) (at : ℕ) (o : Option Effect)
+    → d contents ≡ reached mid effects → slice_get effects at ≡ o → IsStoppedAt mid.steady o why → IsDue why d contents
+late_due d contents mid effects why at None h e (inl s) = subst (λ (x : Status). IsDue x d contents) (sym s) (mid, effects, h)
+late_due d contents mid effects why at None h e (inr s) = subst (λ (x : Status). IsDue x d contents) (sym s) tt
+late_due d contents mid effects why at (Some (says text)) h e (inl s) =
+    subst (λ (x : Status). IsDue x d contents) (sym s.0) (mid, effects, at, says text, h, e, tt)
+late_due d contents mid effects why at (Some (says text)) h e (inr s) = subst (λ (x : Status). IsDue x d contents) (sym s) tt
+late_due d contents mid effects why at (Some (puts word bytes)) h e (inl s) =
+    subst (λ (x : Status). IsDue x d contents) (sym s.0) (inr (mid, effects, at, puts word bytes, h, e, refl))
+late_due d contents mid effects why at (Some (puts word bytes)) h e (inr s) = subst (λ (x : Status). IsDue x d contents) (sym s) tt
+
+met_due : (words : List (List ℕ)) (d : Contents → Due) (contents : Contents) (before : Outside) (why : Status) (after : Outside)
+    → Met words d contents before why after → IsDue why d contents
+met_due words d contents before why after (early u h) = early_due d contents before why after h
+met_due words d contents before why after (late mid effects t h s) = late_due d contents mid effects why s.whole (slice_get effects s.whole) h refl s.stopped
+
+pub answers_exact : (known : Known) (words : List (List ℕ)) (before : Outside) (end : End) → Answers known words before end → OnTold words before end.placed (IsDue end.status)
+answers_exact known words before end h =
+    met_told known words before end h (IsDue end.status) (λ d contents counted m. met_due words d contents before end.status end.left m)
+
+-- ---- completeness
+
+-- taking away a file that is missing changes nothing
+without_missing : (word : ℕ) (contents : Contents) → contents word ≡ None → without word contents ≡ contents
+without_missing word contents e = λ i at. same at i
   where
-    by_fault : length bytes ≤ file_limit → (o : Option BadLine) → first_bad bytes ≡ o → option_map_or (λ bad. refused (BadItems word (bad_items_of bad))) o (next (items_of bytes)) ≡ due → IsRead (Some bytes) next due
-    by_fault short None f e = record { bytes = bytes; is = refl; short = short; good = f; rest = e }
-    by_fault short (Some bad) f e = absurd (subst FromRest (sym e) later)
+    same : (at : ℕ) → without word contents at ≡ contents at
+    same at = by_test (at == word) refl
+      where
+        by_test : (b : Bool) → (at == word) ≡ b → (if b then None else contents at) ≡ contents at
+        by_test true t = let e' : at ≡ word = grind (arith, nat_tests) in sym (ap contents e' ∙ e)
+        by_test false t = refl
 
-    by_length : (b : Bool) → nat_lt file_limit (length bytes) ≡ b → (if b then long word else option_map_or (λ bad. refused (BadItems word (bad_items_of bad))) (first_bad bytes) (next (items_of bytes))) ≡ due → IsRead (Some bytes) next due
-    by_length true t e = absurd (subst FromRest (sym e) later)
-    by_length false t e = by_fault (grind (arith, nat_tests)) (first_bad bytes) refl e
+answered : (d : Contents → Due) (contents : Contents) (why : Status) (x : Due) → d contents ≡ x → IsWhatIsDue x why → IsWhatIsDue (d contents) why ⊎ (why ≡ status.NoMemory)
+answered d contents why x e h = inl (subst (λ (y : Due). IsWhatIsDue y why) (sym e) h)
 
--- both files were read before this was due
-record AreRead (words : List (List ℕ)) (files : Files) (due : Due) : Type 0 where
-  xs : List (List ℕ)
-  ys : List (List ℕ)
-  x_file : HasItems (Some files) words 1 xs
-  y_file : HasItems (Some files) words 2 ys
-  rest : local_rest words xs ys ≡ due
+early_completes : (d : Contents → Due) (contents : Contents) (before : Outside) (why : Status) (after : Outside) → IsCalm before after
+    → Early d contents before why after → IsWhatIsDue (d contents) why ⊎ (why ≡ status.NoMemory)
+early_completes d contents before why after calm (verdict v h) = answered d contents why (refusal why) h refl
+early_completes d contents before why after calm (unheard frame s h) = answered d contents why (refusal (status.BadFrame frame)) h s
+early_completes d contents before why after calm (short_of offset s h) = answered d contents why (refusal (status.PeerEnded offset)) h s
+early_completes d contents before why after (inl was) (missing word s h rose steady) =
+    answered d contents why (lacks word) (sym (ap d (without_missing word contents (steady was))) ∙ h) s
+early_completes d contents before why after (inr quiet) (missing word s h rose steady) = absurd (quiet.0 rose)
+early_completes d contents before why after calm (longer word taken bytes s h there within) = answered d contents why (long word) h (taken, s)
+early_completes d contents before why after calm (excluded word set items s h c) =
+    answered d contents why (unplaced word set) h (items, touched_by set.candidates items, s, c)
+early_completes d contents before why after (inl was) (unlinked s rose unsteady) = absurd (let e : true ≡ false = sym was ∙ unsteady in cc e)
+early_completes d contents before why after (inr quiet) (unlinked s rose unsteady) = absurd (quiet.2 rose)
+early_completes d contents before why after calm (wanting s) = inr s
 
-local_reads : (words : List (List ℕ)) (files : Files) (due : Due) → FromRest due → local_due words (told files words) ≡ due → AreRead words files due
-local_reads words files due later e =
-    let x = judged_rest 1 (files (word_at words 1)) (λ xs. judged 2 (files (word_at words 2)) (λ ys. local_rest words xs ys)) due later e in
-    let y = judged_rest 2 (files (word_at words 2)) (λ ys. local_rest words (items_of x.bytes) ys) due later x.rest in
-    record {
-      xs = items_of x.bytes;
-      ys = items_of y.bytes;
-      x_file = record { bytes = x.bytes; file = x.is; short = x.short; good = x.good; read = refl };
-      y_file = record { bytes = y.bytes; file = y.is; short = y.short; good = y.good; read = refl };
-      rest = y.rest;
-    }
+file_rose : (words : List (List ℕ)) (before : Outside) (why : Status) (after : Outside) (word : ℕ) → IsCounted words before why after → why ≡ status.FileFault word
+    → Rose before.file_faults after.file_faults
+file_rose words before why after word counted s =
+    let f : IsCounted words before (status.FileFault word) after = subst (λ (x : Status). IsCounted words before x after) s counted in f.0
 
-rest_prints : (words : List (List ℕ)) (xs ys : List (List ℕ)) (text : List ℕ) → local_rest words xs ys ≡ prints text → (length xs ≤ most_local) × (local_text words xs ys ≡ text)
-rest_prints words xs ys text e = by_count (nat_lt most_local (length xs)) refl e
+print_rose : (words : List (List ℕ)) (before : Outside) (why : Status) (after : Outside) → IsCounted words before why after → why ≡ status.PrintFault
+    → Rose before.print_faults after.print_faults
+print_rose words before why after counted s =
+    let f : IsCounted words before status.PrintFault after = subst (λ (x : Status). IsCounted words before x after) s counted in f.0
+
+late_completes : (words : List (List ℕ)) (d : Contents → Due) (contents : Contents) (before mid : Outside) (effects : List Effect) (why : Status) (after : Outside)
+    (o : Option Effect) → mid.steady ≡ before.steady → IsCounted words before why after → IsCalm before after → d contents ≡ reached mid effects
+    → IsStoppedAt mid.steady o why → IsWhatIsDue (d contents) why ⊎ (why ≡ status.NoMemory)
+late_completes words d contents before mid effects why after None same counted calm h (inl s) = answered d contents why (reached mid effects) h s
+late_completes words d contents before mid effects why after (Some (says text)) same counted (inl was) h (inl s) =
+    absurd (let e : true ≡ false = sym was ∙ (sym same ∙ s.1) in cc e)
+late_completes words d contents before mid effects why after (Some (says text)) same counted (inr quiet) h (inl s) =
+    absurd (quiet.1 (print_rose words before why after counted s.0))
+late_completes words d contents before mid effects why after (Some (puts word bytes)) same counted (inl was) h (inl s) =
+    absurd (let e : true ≡ false = sym was ∙ (sym same ∙ s.1) in cc e)
+late_completes words d contents before mid effects why after (Some (puts word bytes)) same counted (inr quiet) h (inl s) =
+    absurd (quiet.0 (file_rose words before why after word counted s.0))
+late_completes words d contents before mid effects why after None same counted calm h (inr s) = inr s
+late_completes words d contents before mid effects why after (Some (says text)) same counted calm h (inr s) = inr s
+late_completes words d contents before mid effects why after (Some (puts word bytes)) same counted calm h (inr s) = inr s
+
+steady_talked : (before mid : Outside) → OnlyTalked before mid → mid.steady ≡ before.steady
+unfolding OnlyTalked
+steady_talked before mid t = ap (λ (o : Outside). o.steady) t
+
+met_completes : (words : List (List ℕ)) (d : Contents → Due) (contents : Contents) (before : Outside) (why : Status) (after : Outside) → IsCounted words before why after
+    → Met words d contents before why after → Completes before why after d contents
+met_completes words d contents before why after counted (early u h) = λ calm. early_completes d contents before why after calm h
+met_completes words d contents before why after counted (late mid effects t h s) = λ calm.
+    late_completes words d contents before mid effects why after (slice_get effects s.whole) (steady_talked before mid t) counted calm h s.stopped
+
+pub answers_complete : (known : Known) (words : List (List ℕ)) (before : Outside) (end : End) → Answers known words before end
+    → OnTold words before end.placed (Completes before end.status end.left)
+answers_complete known words before end h =
+    met_told known words before end h (Completes before end.status end.left) (λ d contents counted m. met_completes words d contents before end.status end.left counted m)
+
+-- ---- what stands
+
+met_stands : (words : List (List ℕ)) (d : Contents → Due) (contents : Contents) (before : Outside) (why : Status) (after : Outside)
+    → Met words d contents before why after → StandsAt words before why after (d contents)
+met_stands words d contents before why after (early u h) = untouched (d contents)
   where
-    by_count : (b : Bool) → nat_lt most_local (length xs) ≡ b → (if b then refused (LargeSet (length xs)) else prints (local_text words xs ys)) ≡ prints text → (length xs ≤ most_local) × (local_text words xs ys ≡ text)
-    by_count true t e = cc e
-    by_count false t e = (grind (arith, nat_tests), cc e)
+    untouched : (x : Due) → StandsAt words before why after x
+    untouched (lacks word) = u
+    untouched (long word) = u
+    untouched (refusal x) = u
+    untouched (unplaced word set) = u
+    untouched (reached mid effects) = inr u
+met_stands words d contents before why after (late mid effects t h s) = subst (λ (x : Due). StandsAt words before why after x) (sym h) (inl s)
 
-rest_refuses : (words : List (List ℕ)) (xs ys : List (List ℕ)) (count : ℕ) → local_rest words xs ys ≡ refused (LargeSet count) → (count ≡ length xs) × (most_local < count)
-rest_refuses words xs ys count e = by_count (nat_lt most_local (length xs)) refl e
+pub answers_stand : (known : Known) (words : List (List ℕ)) (before : Outside) (end : End) → Answers known words before end
+    → OnTold words before end.placed (λ d contents. StandsAt words before end.status end.left (d contents))
+answers_stand known words before end h =
+    met_told known words before end h (λ d contents. StandsAt words before end.status end.left (d contents))
+    (λ d contents counted m. met_stands words d contents before end.status end.left m)
+
+-- ---- what Done leaves
+
+pub answers_done : (known : Known) (words : List (List ℕ)) (before : Outside) (end : End) → Answers known words before end → DoneLeaves known words before end
+answers_done known words before end h = λ command named done. by_words (bad_word words) (command_of words) command named done h
   where
-    by_count : (b : Bool) → nat_lt most_local (length xs) ≡ b → (if b then refused (LargeSet (length xs)) else prints (local_text words xs ys)) ≡ refused (LargeSet count) → (count ≡ length xs) × (most_local < count)
-    by_count true t e = let same : length xs ≡ count = cc e in (sym same, (grind (arith, nat_tests)))
-    by_count false t e = cc e
+    by_words : (place : Option ℕ) (o : Option Command) (command : Command) → o ≡ Some command → end.status ≡ status.Done → AnswersBy known words before end place o
+        → Leaves known words (tree_of command words) before end
+    by_words (Some at) o command n done h = absurd (let e : status.BadWords at ≡ status.Done = sym (ap (λ (d : End). d.status) h) ∙ done in cc e)
+    by_words None o command n done h =
+        let f : AnswersBy known words before end None (Some command) = subst (λ (x : Option Command). AnswersBy known words before end None x) n h in
+        follows_leaves known words false (tree_of command words) before end done f
 
-few_of : (words : List (List ℕ)) (files : Files) (text : List ℕ) → local_due words (told files words) ≡ prints text → HasBoth words files (λ xs. length xs ≤ most_local)
-unfolding FromRest
-few_of words files text e =
-    let both = local_reads words files (prints text) tt e in
-    record { xs = both.xs; ys = both.ys; x_file = both.x_file; y_file = both.y_file; fact = (rest_prints words both.xs both.ys text both.rest).0 }
+-- ---- completeness, from what is known in advance
 
-is_sized : (words : List (List ℕ)) (files : Files) (before : Outside) (status : Status) (after : Outside) → Follows (local_due words) (told files words) before status after → IsSized words files status
-unfolding FromRest
-is_sized words files before Done after h = few_of words files h.0 h.1
-is_sized words files before (BadWords at) after h = tt
-is_sized words files before (BadItems word fault) after h = tt
-is_sized words files before (FileFault word) after h = tt
-is_sized words files before PrintFault after h = few_of words files h.0 h.2
-is_sized words files before (TooLong word taken) after h = tt
-is_sized words files before (LargeSet count) after h =
-    let both = local_reads words files (refused (LargeSet count)) tt h.0 in
-    record { xs = both.xs; ys = both.ys; x_file = both.x_file; y_file = both.y_file; fact = rest_refuses words both.xs both.ys count both.rest }
-is_sized words files before NoMemory after h = tt
+-- the set has a placement
+HasPlacement : Placing → Type 0
+HasPlacement set = (slots : List Slot) × IsPlacement set.stash set.bins set.candidates slots
 
-pub answers_sized : (words : List (List ℕ)) (before : Outside) (status : Status) (after : Outside) → Answers words before status after → LocalIsSized words before status
-answers_sized words before status after h = λ files is fit named. is_sized words files before status after (follows_told words before status after h files Local is fit named)
+-- a tree that is ready comes to its end, or to a set that has no slots though it has a placement
+data Comes (d : Due) : Type 0 where
+  to_end : (mid : Outside) (effects : List Effect) → d ≡ reached mid effects → Comes d
+  to_set : (word : ℕ) (set : Placing) → HasPlacement set → d ≡ unplaced word set → Comes d
 
-local_is_setup : (words : List (List ℕ)) (xs : List (List ℕ)) → length xs ≤ most_local → IsSetup usual_stash (local_setup words xs)
-unfolding local_setup
-local_is_setup words xs few = dealt_setup usual_stash (seed_of (word_at words 3)) (number_of (word_at words 4)) (number_of (word_at words 5)) xs few
+comes_on : (d e : Due) → d ≡ e → Comes e → Comes d
+comes_on d e same (to_end mid effects h) = to_end mid effects (same ∙ h)
+comes_on d e same (to_set word set has h) = to_set word set has (same ∙ h)
 
-local_places : (words : List (List ℕ)) (xs : List (List ℕ)) → map (λ p. p.item) (local_setup words xs).placed ≡ xs
-unfolding local_setup
-local_places words xs = items_of-placed_of xs (stash_slots (bins_for (length xs)) (length xs)) (sym (length-stash_slots (bins_for (length xs)) (length xs)))
+ready_comes : (tree : Tree) (contents : Contents) (before : Outside) (slots : List (List Slot)) → IsReady contents before tree
+    → ArePlacements contents before slots tree → Comes (due contents before slots tree)
+unfolding ArePlacements HasPlacement
+ready_comes (reads word limit next) contents before slots r p =
+    comes_on (judged word limit (contents word) (λ bytes. due contents before slots (next bytes))) (due contents before slots (next r.0))
+    (judged_read word limit (contents word) r.0 (λ bytes. due contents before slots (next bytes)) r.1 r.2) (ready_comes (next r.0) contents before slots r.3 (p r.0 r.1))
+ready_comes (refuses why) contents before slots r p = absurd r
+ready_comes (places word set next) contents before [] r p = to_set word set r.0 refl
+ready_comes (places word set next) contents before (chosen ∷ rest) r p = ready_comes (next chosen) contents before rest (r.1 chosen p.0) p.1
+ready_comes (opens next) contents before slots r p = ready_comes next contents (record before { ready = true }) slots r p
+ready_comes (talks d next) contents before slots r p =
+    let go_on = λ (bytes : List ℕ). due contents (talked before (d.owes bytes) bytes) slots (next bytes) in
+    comes_on (heard (d.reads_as (unwrap_or before.incoming [])) go_on) (due contents (talked before (d.owes r.1) r.1) slots (next r.1))
+    (ap (λ (o : Option (List ℕ)). heard (d.reads_as (unwrap_or o [])) go_on) r.2 ∙ ap (λ (x : Reading). heard x go_on) r.3)
+    (ready_comes (next r.1) contents (talked before (d.owes r.1) r.1) slots r.4 (p r.0 r.1 r.2 r.3))
+ready_comes (ends wire effects) contents before slots r p = to_end before effects refl
 
-text_is_shown : (words : List (List ℕ)) (xs ys : List (List ℕ)) → local_text words xs ys ≡ lines_text (shown (local_setup words xs) ys)
-unfolding local_text
-text_is_shown words xs ys = refl
+-- a crowded list excludes a placement
+crowded_excludes : (set : Placing) (items : List ℕ) → IsCrowded set.stash set.candidates items → HasPlacement set → ⊥
+unfolding HasPlacement
+crowded_excludes set items c has = no_placement set.stash set.bins set.candidates items has.0 c has.1
 
-pub answers_shown : (words : List (List ℕ)) (before : Outside) (status : Status) (after : Outside) → Answers words before status after → IsBadWords status (bad_word words) → LocalPrintsShown words before status after
-unfolding FromRest
-answers_shown words before status after h bad = λ files printed now is was became named done.
-    let fit : bad_word words ≡ None = subst (λ (s : Status). IsBadWords s (bad_word words)) done bad in
-    let follows : Follows (local_due words) (told files words) before Done after = subst (λ (s : Status). Follows (local_due words) (told files words) before s after) done (follows_told words before status after h files Local is fit named) in
-    let text = follows.0 in
-    let both = local_reads words files (prints text) tt follows.1 in
-    let xs = both.xs in
-    let ys = both.ys in
-    let rest = rest_prints words xs ys text both.rest in
-    let s = local_setup words xs in
-    let law : ShowsCommon s ys = shows_common usual_stash s ys (local_is_setup words xs rest.0) in
-    let all : Some now ≡ Some (printed ++ text) = sym became ∙ ap (λ (o : Outside). o.printed) follows.2 ∙ ap (λ (p : Option (List ℕ)). option_map (λ (p : List ℕ). p ++ text) p) was in
-    let grown : now ≡ printed ++ text = cc all in
-    record {
-      xs = xs;
-      ys = ys;
-      x_file = both.x_file;
-      y_file = both.y_file;
-      few = rest.0;
-      printed = grown ∙ ap (λ (t : List ℕ). printed ++ t) (sym rest.1 ∙ text_is_shown words xs ys);
-      placed = local_places words xs;
-      common = λ item in_x in_y. law.common item (subst (λ (items : List (List ℕ)). Contains items item) (sym (local_places words xs)) in_x) in_y;
-      others = law.others;
-    }
+comes_through : (d : Due) (why : Status) → Comes d → IsWhatIsDue d why ⊎ (why ≡ status.NoMemory) → (why ≡ status.Done) ⊎ (why ≡ status.NoMemory)
+comes_through d why comes (inr s) = inr s
+comes_through d why (to_end mid effects e) (inl h) = inl (subst (λ (x : Due). IsWhatIsDue x why) e h)
+comes_through d why (to_set word set has e) (inl h) =
+    let f : IsWhatIsDue (unplaced word set) why = subst (λ (x : Due). IsWhatIsDue x why) e h in
+    absurd (crowded_excludes set f.0 f.3 has)
 
--- ---- bad words
-
--- a command never answers `BadWords`
-no_bad_words : (before : Outside) (status : Status) (after : Outside) → HasCause before status after → IsBadWords status None
-no_bad_words before Done after h = refl
-no_bad_words before (BadWords at) after h = absurd h
-no_bad_words before (BadItems word fault) after h = refl
-no_bad_words before (FileFault word) after h = refl
-no_bad_words before PrintFault after h = refl
-no_bad_words before (TooLong word taken) after h = refl
-no_bad_words before (LargeSet count) after h = refl
-no_bad_words before NoMemory after h = refl
-
-pub answers_bad_words : (words : List (List ℕ)) (before : Outside) (status : Status) (after : Outside) → Answers words before status after → IsBadWords status (bad_word words)
-answers_bad_words words before status after = by_words (bad_word words) (command_of words)
-  where
-    by_words : (bad : Option ℕ) (command : Option Command) → AnswersBy words before status after bad command → IsBadWords status bad
-    by_words (Some at) command h = subst (λ (s : Status). IsBadWords s (Some at)) (sym h.0) refl
-    by_words None None h = absurd h
-    by_words None (Some command) h = no_bad_words before status after h.0
+pub answers_through : (known : Known) (words : List (List ℕ)) (before : Outside) (end : End) → Answers known words before end → RunsThrough words before end
+answers_through known words before end h = λ files incoming command is coming fit named ready calm.
+    let tree = tree_of command words in
+    let follows = follows_told known words before end h command fit named in
+    let comes = ready_comes tree (told files words) before end.placed ready (follows_placed known words false tree files incoming before end is coming follows) in
+    comes_through (due (told files words) before end.placed tree) end.status comes (answers_complete known words before end h files incoming command is coming fit named calm)

@@ -79,7 +79,7 @@ dealt_agrees words xs dealt made few = record {
   each_row = λ row within.
       let seed = seed_of (word_at words 3) in
       let session = number_of (word_at words 4) in
-      let deal = dealt_receiver seed session (number_of (word_at words 5)) in
+      let deal = dealt_receiver seed session (number_of (word_at words 5)) usual_stash in
       ap (λ (bytes : List ℕ). zero_row (drop 96 bytes) dealt.session row) made.bytes
       ∙ ap (λ (n : ℕ). zero_row (drop 96 (Rattle.psi_spec.specs.Deals.deal_bytes seed)) n row) made.session
       ∙ sym (row_of-zero_columns deal (rows_for usual_stash (length xs)) 16 row within (omega arith));

@@ -3,7 +3,7 @@ use Rattle.std.proofs.Common.{◌≡◌, ◌^◌, ◌*◌, ◌<◌, ◌≤◌, �
 use Rattle.std.specs.declared.result.Result.{Result}
 use Rattle.std.specs.Result.{is_ok, OkIff, result_unwrap_or}
 use Rattle.std.specs.Char.{is_ascii_digit}
-use Rattle.std.specs.List.{list_all}
+use Rattle.std.specs.List.{after_first, before_first, list_all, list_any}
 use Rattle.std.specs.Str.{all_ascii_digits}
 use Rattle.std.specs.Str.Parse.{ParsesUnsigned, digits_value}
 use Rattle.std.proofs.lemmas.Str.Parse.{IsNumeralModel, numerals_by_value, tells_all_ascii_digits, parse_digits, parse_gives, digits_value_short}
@@ -12,7 +12,7 @@ use Rattle.std.proofs.lemmas.List.Sums.{AllPass-from_list_all, list_all-from_All
 use Rattle.hex.specs.Hex.{decode_sized, is_hex_digit}
 use Rattle.hex.specs.declared.error.FromHexError.{FromHexError}
 use Rattle.hex.proofs.HexLemmas.{IsOk-decode_sized, decode_sized-twice}
-use Rattle.psi_spec.specs.Words.{are_digits, is_seed, is_session, is_tag_length, number_of, seed_of}
+use Rattle.psi_spec.specs.Words.{are_digits, are_sizes, is_stroke, is_seed, is_session, is_stash_count, is_tag_length, number_of, seed_of}
 
 -- two spellings of one test
 list_all-digits : (word : List ℕ) → list_all is_ascii_digit word ≡ all_ascii_digits word
@@ -22,7 +22,7 @@ list_all-digits (c ∷ word) = ap (λ b. is_ascii_digit c && b) (list_all-digits
 numerals : IsNumeralModel (λ word. all_ascii_digits word ≡ true) (digits_value 10)
 numerals = numerals_by_value (λ word. all_ascii_digits word ≡ true) tells_all_ascii_digits
 
-both_true : (a b : Bool) → (a && b) ≡ true → (a ≡ true) × (b ≡ true)
+pub both_true : (a b : Bool) → (a && b) ≡ true → (a ≡ true) × (b ≡ true)
 both_true true b e = (refl, e)
 both_true false b e = cc e
 
@@ -72,6 +72,13 @@ tag_length_parts word e =
     let high : nat_le (number_of word) 16 ≡ true = ends.1 in
     (has_digits 2 word parts.0, grind (arith, nat_tests), grind (arith, nat_tests))
 
+-- what the form of a number of stash rows says
+pub stash_parts : (word : List ℕ) → is_stash_count word ≡ true → HasDigits 2 word × (number_of word ≤ 16)
+stash_parts word e =
+    let parts = both_true (are_digits 2 word) (nat_le (number_of word) 16) e in
+    let high : nat_le (number_of word) 16 ≡ true = parts.1 in
+    (has_digits 2 word parts.0, grind (arith, nat_tests))
+
 same_test : (a b : Bool) → (a ≡ true → b ≡ true) → (b ≡ true → a ≡ true) → a ≡ b
 same_test true b to from = sym (to refl)
 same_test false true to from = from refl
@@ -98,3 +105,10 @@ decoded_seed word seed form e =
     let long : (length word == 64) ≡ true = h.0 in
     let even : length word ≡ 2 * 32 = grind (arith, nat_tests) in
     sym (ap (λ (r : Result (List ℕ) FromHexError). result_unwrap_or r []) (sym (decode_sized-twice word 32 even) ∙ e))
+
+-- what the form of sizes says where they have a stroke
+pub sizes_parts : (word : List ℕ) → are_sizes word ≡ true → list_any is_stroke word ≡ true
+    → (is_tag_length (before_first is_stroke word) ≡ true) × (is_stash_count (after_first is_stroke word) ≡ true)
+sizes_parts word form stroke =
+    let both : (is_tag_length (before_first is_stroke word) && is_stash_count (after_first is_stroke word)) ≡ true = rw stroke at form in
+    both_true (is_tag_length (before_first is_stroke word)) (is_stash_count (after_first is_stroke word)) both

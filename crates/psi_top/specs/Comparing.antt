@@ -1,4 +1,5 @@
--- The parts of the computation of `local`: the rows of a deal, and the receiver's items as the sender's are compared with them.
+-- The parts of the computation of `local`: the rows of a deal, and the receiver's items as the sender's are compared
+-- with them.
 use Rattle.std.specs.Prelude.{◌≡◌, ℕ, ◌+◌, ◌≤◌, ◌||◌, length, Bool, false, List, [], ◌∷◌, take, drop, cond}
 use Rattle.std.specs.List.{list_any}
 use Rattle.std.specs.Str.{bytes_eq}
@@ -28,7 +29,8 @@ abbrev pub comparison_at : Dealt → ℕ → List ℕ → Comparison
 comparison_at dealt row item = record {
   row = row;
   own = padded_tag dealt.key dealt.tag_length row (zero_row (drop 96 dealt.bytes.items) dealt.session row);
-  opened = xor (zero_row (drop 96 dealt.bytes.items) dealt.session row) (both dealt.choice (code dealt.key 0 (item_digest item)));
+  opened =
+      xor (zero_row (drop 96 dealt.bytes.items) dealt.session row) (both dealt.choice (code dealt.key 0 (item_digest item)));
   met = false;
 }
 
@@ -39,7 +41,8 @@ comparisons_from dealt row (item ∷ items) = comparison_at dealt row item ∷ c
 
 -- whether an item of the sender with this code has a tag that equals the own tag
 abbrev pub meets_code : Dealt → Comparison → List ℕ → Bool
-meets_code dealt c word = bytes_eq c.own (padded_tag dealt.key dealt.tag_length c.row (xor c.opened (both dealt.choice word)))
+meets_code dealt c word =
+    bytes_eq c.own (padded_tag dealt.key dealt.tag_length c.row (xor c.opened (both dealt.choice word)))
 
 -- after one item of the sender, by its code
 abbrev pub after_code : Dealt → List ℕ → Comparison → Comparison
@@ -47,7 +50,8 @@ after_code dealt word c = record c { met = c.met || meets_code dealt c word }
 
 -- after items of the sender
 abbrev pub after_items : Dealt → List (List ℕ) → Comparison → Comparison
-after_items dealt ys c = record c { met = c.met || list_any (λ y. meets_code dealt c (code dealt.key 0 (item_digest y))) ys }
+after_items dealt ys c =
+    record c { met = c.met || list_any (λ y. meets_code dealt c (code dealt.key 0 (item_digest y))) ys }
 
 -- the items whose comparison met an item of the sender
 abbrev pub met_items : List Comparison → List (List ℕ) → List (List ℕ)

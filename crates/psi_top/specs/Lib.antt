@@ -1,7 +1,14 @@
-pub mod Answers
+pub mod Commands
 pub mod Comparing
+pub mod Deal
 pub mod Dealing
+pub mod Dialogue
+pub mod Due
+pub mod Files
 pub mod Form
 pub mod Local
+pub mod LocalPromises
 pub mod Promises
 pub mod Texts
+pub mod Tree
+pub mod Walk

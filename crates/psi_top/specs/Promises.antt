@@ -1,104 +1,267 @@
--- What callers read from `Answers`.
-use Rattle.std.specs.Prelude.{◌≡◌, ◌<◌, ◌≤◌, ◌++◌, ℕ, List, Contains, length, map, take, Option, Some, None, option_map}
-use Rattle.psi_spec.specs.Limits.{file_limit}
-use Rattle.psi_spec.specs.Meeting.{Placed, SharesTag, shown, shown_placed}
-use Rattle.psi_spec.specs.Texts.{lines_text}
-use Rattle.psi_spec.specs.Words.{bad_word}
-use Rattle.psi_base.specs.Outside.{Outside, Files, Rose}
+-- What callers read from how a run followed its tree.
+use Rattle.std.specs.Prelude.{◌≡◌, ◌<◌, ◌≤◌, ◌⊎◌, ℕ, List, [], ◌∷◌, Option, Some, None, Bool, IsTrue, true, false, length, take, slice_get}
+use Rattle.psi_spec.specs.CrowdedLists.{IsCrowded, touched_by}
+use Rattle.psi_spec.specs.Placement.{Slot, IsPlacement}
+use Rattle.psi_spec.specs.Words.{bad_word, word_at}
+use Rattle.psi_base.specs.Outside.{Known, Outside, Files, HasFile, LacksFile, Rose}
+use Rattle.psi_top.specs.Commands.{tree_of}
+use Rattle.psi_top.specs.Dialogue.{Dialogue, ReadSo, WereTaken, good, bad, short, talked}
+use Rattle.psi_top.specs.Due.{Contents, Due, lacks, long, refusal, unplaced, reached, due, told, without, after_effects, after_part}
 use Rattle.psi_top.specs.Form.{command_of}
-use Rattle.psi_top.specs.Local.{local_setup, most_local}
-use Rattle.psi_top.specs.Answers.{Contents, Due, HasItems, due_of, lacks, long, refused, prints, text_of, told, without}
+use Rattle.psi_top.specs.Tree.{Effect, says, puts, Placing, Tree, reads, refuses, places, opens, talks, ends, End}
+use Rattle.psi_top.specs.Walk.{IsVerdict}
 use Rattle.psi_top.specs.declared.form.Command.{Command}
-use Rattle.psi_top.specs.declared.form.Command.TheVariants.{Local}
 use Rattle.psi_top.specs.declared.status.Status.{Status}
-use Rattle.psi_top.specs.declared.status.Status.TheVariants.{Done, BadWords, BadItems, FileFault, PrintFault, TooLong, LargeSet, NoMemory}
+use Rattle.psi_top.specs.declared.status.Status.TheVariants.{Done, BadWords, NoPlacement, BadFrame, PeerEnded, FileFault, LinkFault, PrintFault, TooLong, NoMemory}
+
+-- ---- words
 
 -- the status is `BadWords` exactly where the words have a bad place, which it names
 abbrev pub IsBadWords : Status → Option ℕ → Type 0
-IsBadWords (BadWords at) bad = bad ≡ Some at
-IsBadWords Done bad = bad ≡ None
-IsBadWords (BadItems word fault) bad = bad ≡ None
-IsBadWords (FileFault word) bad = bad ≡ None
-IsBadWords PrintFault bad = bad ≡ None
-IsBadWords (TooLong word taken) bad = bad ≡ None
-IsBadWords (LargeSet count) bad = bad ≡ None
-IsBadWords NoMemory bad = bad ≡ None
+IsBadWords (BadWords at) place = place ≡ Some at
+IsBadWords _ place = place ≡ None
 
--- a fact on what the command of the words is due at the contents of its files, where the files are told
-abbrev pub OnDue : List (List ℕ) → Outside → ((Contents → Due) → Contents → Type 0) → Type 0
-OnDue words before P = (files : Files) (command : Command) → before.files ≡ Some files → bad_word words ≡ None → command_of words ≡ Some command → P (due_of command words) (told files words)
+-- ---- counts, in every world
 
--- each refusal comes only where it is due: that of a file that was not read, where it would be due if the file were missing
+-- the counts of an outside
+pub record Counts : Type 0 where
+  pub file_faults : ℕ
+  pub link_faults : ℕ
+  pub print_faults : ℕ
+  pub ends : ℕ
+  pub refusals : ℕ
+
+abbrev pub counts_of : Outside → Counts
+counts_of o = record {
+  file_faults = o.file_faults;
+  link_faults = o.link_faults;
+  print_faults = o.print_faults;
+  ends = o.ends;
+  refusals = o.refusals;
+}
+
+-- the count of the status's cause rose, and no other changed; without such a cause none did
+abbrev pub IsCounted : List (List ℕ) → Outside → Status → Outside → Type 0
+IsCounted words before (FileFault word) after =
+    Rose before.file_faults after.file_faults
+    × (IsTrue before.steady → LacksFile before.files (word_at words word))
+    × (counts_of after ≡ record (counts_of before) { file_faults = after.file_faults })
+IsCounted words before PrintFault after =
+    Rose before.print_faults after.print_faults × (before.steady ≡ false)
+    × (counts_of after ≡ record (counts_of before) { print_faults = after.print_faults })
+IsCounted words before LinkFault after =
+    Rose before.link_faults after.link_faults × (before.steady ≡ false)
+    × (counts_of after ≡ record (counts_of before) { link_faults = after.link_faults })
+IsCounted words before (PeerEnded offset) after =
+    Rose before.ends after.ends × (counts_of after ≡ record (counts_of before) { ends = after.ends })
+IsCounted words before NoMemory after =
+    (before.refusals ≤ after.refusals)
+    × (counts_of after ≡ record (counts_of before) { refusals = after.refusals })
+IsCounted words before _ after = counts_of after ≡ counts_of before
+
+-- a bad word changes nothing at all, and a command no count but that of its status's cause
+abbrev pub CountsBy : List (List ℕ) → Outside → Status → Outside → Option ℕ → Type 0
+CountsBy words before why after (Some at) = after ≡ before
+CountsBy words before why after None = IsCounted words before why after
+
+-- ---- the status, in every world
+
+-- a read gave these bytes as the file of a word, which has them where the files are told
+pub record WasRead (known : Known) (words : List (List ℕ)) (before : Outside) (word limit : ℕ) (bytes : List ℕ)
+    : Type 0 where
+  pub file : HasFile before.files (word_at words word) bytes
+  pub given : known.gives (word_at words word) bytes
+  pub short : length bytes ≤ limit
+
+-- the statuses of a file that was not read
+abbrev pub IsUnread : ℕ → ℕ → Status → Type 0
+IsUnread word limit (FileFault place) = place ≡ word
+IsUnread word limit (TooLong place taken) = (place ≡ word) × (limit < taken)
+IsUnread word limit NoMemory = Unit {0}
+IsUnread word limit _ = ⊥
+
+-- the statuses of a set that was not placed
+abbrev pub IsNotPlaced : ℕ → Placing → Status → Type 0
+IsNotPlaced word set (NoPlacement place items touched) =
+    (place ≡ word) × IsCrowded set.stash set.candidates items × (touched ≡ touched_by set.candidates items)
+IsNotPlaced word set NoMemory = Unit {0}
+IsNotPlaced word set _ = ⊥
+
+-- the statuses of a session that was cut off
+abbrev pub IsNotTalked : Known → Dialogue → Outside → Status → Type 0
+IsNotTalked known d before (BadFrame frame) =
+    (taken : List ℕ) × WereTaken known before.incoming taken × ReadSo d before.incoming taken (bad frame)
+IsNotTalked known d before (PeerEnded offset) =
+    (taken : List ℕ) × WereTaken known before.incoming taken × ReadSo d before.incoming taken (short offset)
+IsNotTalked known d before LinkFault = Unit {0}
+IsNotTalked known d before NoMemory = Unit {0}
+IsNotTalked known d before _ = ⊥
+
+-- the statuses of an end: a print can fail where a text is to be printed, and a write where that file is to be written
+abbrev pub IsOfEffect : Status → Effect → Type 0
+IsOfEffect PrintFault (says text) = Unit {0}
+IsOfEffect (FileFault place) (puts word bytes) = place ≡ word
+IsOfEffect why effect = ⊥
+
+abbrev pub IsOfEnd : Status → List Effect → Type 0
+IsOfEnd Done effects = Unit {0}
+IsOfEnd NoMemory effects = Unit {0}
+IsOfEnd why effects = (at : ℕ) × (effect : Effect) × (slice_get effects at ≡ Some effect) × IsOfEffect why effect
+
+-- the tree comes to a step that answers this status, along contents that reads gave, placements and bytes of a peer
+abbrev pub IsAnswered : Known → List (List ℕ) → Tree → Outside → Status → Type 0
+IsAnswered known words (reads word limit next) before why =
+    IsUnread word limit why
+    ⊎ ((bytes : List ℕ) × WasRead known words before word limit bytes × IsAnswered known words (next bytes) before why)
+IsAnswered known words (refuses verdict) before why = (why ≡ NoMemory) ⊎ ((why ≡ verdict) × IsVerdict verdict)
+IsAnswered known words (places word set next) before why =
+    IsNotPlaced word set why
+    ⊎ ((slots : List Slot) × IsPlacement set.stash set.bins set.candidates slots
+    × IsAnswered known words (next slots) before why)
+IsAnswered known words (opens next) before why =
+    ((why ≡ LinkFault) ⊎ (why ≡ NoMemory)) ⊎ IsAnswered known words next (record before { ready = true }) why
+IsAnswered known words (talks d next) before why =
+    IsNotTalked known d before why
+    ⊎ ((taken : List ℕ) × WereTaken known before.incoming taken × ReadSo d before.incoming taken (good taken)
+    × IsAnswered known words (next taken) (talked before (d.owes taken) taken) why)
+IsAnswered known words (ends wire effects) before why = IsOfEnd why effects
+
+-- the same of a command
+abbrev pub IsOfCommand : Known → List (List ℕ) → Outside → Status → Type 0
+IsOfCommand known words before why =
+    (command : Command) → bad_word words ≡ None → command_of words ≡ Some command
+    → IsAnswered known words (tree_of command words) before why
+
+-- ---- refusals, where the files and the incoming bytes are told
+
+-- a fact on what the command of the words is due, with these slots
+abbrev pub OnTold : List (List ℕ) → Outside → List (List Slot) → ((Contents → Due) → Contents → Type 0) → Type 0
+OnTold words before slots P =
+    (files : Files) (incoming : List ℕ) (command : Command)
+    → before.files ≡ Some files → before.incoming ≡ Some incoming
+    → bad_word words ≡ None → command_of words ≡ Some command
+    → P (λ contents. due contents before slots (tree_of command words)) (told files words)
+
+-- what is left to do once all is read, placed and exchanged has an effect of which a fact holds
+abbrev pub IsLeft : Due → (Effect → Type 0) → Type 0
+IsLeft d P =
+    (mid : Outside) × (effects : List Effect) × (at : ℕ) × (effect : Effect)
+    × (d ≡ reached mid effects) × (slice_get effects at ≡ Some effect) × P effect
+
+-- each refusal comes only where it is due, with nothing before it refused: that of a file that was not read, where it
+-- would be due if the file were missing
 abbrev pub IsDue : Status → (Contents → Due) → Contents → Type 0
-IsDue Done due contents = (text : List ℕ) × (due contents ≡ prints text)
-IsDue (BadWords at) due contents = ⊥
-IsDue (BadItems word fault) due contents = due contents ≡ refused (BadItems word fault)
-IsDue (FileFault word) due contents = due (without word contents) ≡ lacks word
-IsDue PrintFault due contents = (text : List ℕ) × (due contents ≡ prints text)
-IsDue (TooLong word taken) due contents = due contents ≡ long word
-IsDue (LargeSet count) due contents = due contents ≡ refused (LargeSet count)
-IsDue NoMemory due contents = Unit {0}
+IsDue Done d contents = (mid : Outside) × (effects : List Effect) × (d contents ≡ reached mid effects)
+IsDue (BadWords at) d contents = ⊥
+IsDue (NoPlacement word items touched) d contents =
+    (set : Placing) × (d contents ≡ unplaced word set) × IsCrowded set.stash set.candidates items
+    × (touched ≡ touched_by set.candidates items)
+IsDue (FileFault word) d contents =
+    (d (without word contents) ≡ lacks word) ⊎ IsLeft (d contents) (IsOfEffect (FileFault word))
+IsDue LinkFault d contents = Unit {0}
+IsDue PrintFault d contents = IsLeft (d contents) (IsOfEffect PrintFault)
+IsDue (TooLong word taken) d contents =
+    (d contents ≡ long word) × ((bytes : List ℕ) × (contents word ≡ Some bytes) × (taken ≤ length bytes))
+IsDue NoMemory d contents = Unit {0}
+IsDue why d contents = d contents ≡ refusal why
 
--- a front of the text that is due was printed, the whole of it where the run is done
-pub record PrintsFront (before after : Outside) (status : Status) (due : Contents → Due) (contents : Contents) : Type 0 where
-  pub count : ℕ
-  pub printed : after.printed ≡ option_map (λ p. p ++ take count (text_of (due contents))) before.printed
-  pub whole : status ≡ Done → length (text_of (due contents)) ≤ count
+-- ---- completeness
 
--- no file changes, and no count falls
-pub record KeepsRest (before after : Outside) : Type 0 where
+-- the world is steady, or no count of faults rose
+abbrev pub IsCalm : Outside → Outside → Type 0
+IsCalm before after =
+    IsTrue before.steady
+    ⊎ ((Rose before.file_faults after.file_faults → ⊥) × (Rose before.print_faults after.print_faults → ⊥)
+    × (Rose before.link_faults after.link_faults → ⊥))
+
+-- this status is what is due
+abbrev pub IsWhatIsDue : Due → Status → Type 0
+IsWhatIsDue (lacks word) why = why ≡ FileFault word
+IsWhatIsDue (long word) why = (taken : ℕ) × (why ≡ TooLong word taken)
+IsWhatIsDue (refusal verdict) why = why ≡ verdict
+IsWhatIsDue (unplaced word set) why =
+    (items : List ℕ) × (touched : ℕ) × (why ≡ NoPlacement word items touched)
+    × IsCrowded set.stash set.candidates items
+IsWhatIsDue (reached mid effects) why = why ≡ Done
+
+-- in a calm world what is due is answered, or memory was wanting: so a file fault comes exactly where the file that is
+-- due is missing, and no other fault of the outside does
+abbrev pub Completes : Outside → Status → Outside → (Contents → Due) → Contents → Type 0
+Completes before why after d contents = IsCalm before after → IsWhatIsDue (d contents) why ⊎ (why ≡ NoMemory)
+
+-- the tree comes to its end, whatever placement is chosen of each set, which has one
+abbrev pub IsReady : Contents → Outside → Tree → Type 0
+IsReady contents before (reads word limit next) =
+    (bytes : List ℕ) × (contents word ≡ Some bytes) × (length bytes ≤ limit) × IsReady contents before (next bytes)
+IsReady contents before (refuses verdict) = ⊥
+IsReady contents before (places word set next) =
+    ((slots : List Slot) × IsPlacement set.stash set.bins set.candidates slots)
+    × ((slots : List Slot) → IsPlacement set.stash set.bins set.candidates slots → IsReady contents before (next slots))
+IsReady contents before (opens next) = IsReady contents (record before { ready = true }) next
+IsReady contents before (talks d next) =
+    (incoming taken : List ℕ) × (before.incoming ≡ Some incoming) × (d.reads_as incoming ≡ good taken)
+    × IsReady contents (talked before (d.owes taken) taken) (next taken)
+IsReady contents before (ends wire effects) = Unit {0}
+
+-- from valid files, sets that have placements and a well-formed peer the run is done in a calm world, or memory was
+-- wanting
+abbrev pub RunsThrough : List (List ℕ) → Outside → End → Type 0
+RunsThrough words before end =
+    (files : Files) (incoming : List ℕ) (command : Command)
+    → before.files ≡ Some files → before.incoming ≡ Some incoming
+    → bad_word words ≡ None → command_of words ≡ Some command
+    → IsReady (told files words) before (tree_of command words) → IsCalm before end.left
+    → (end.status ≡ Done) ⊎ (end.status ≡ NoMemory)
+
+-- ---- what stands
+
+-- nothing was printed or written
+pub record Untouched (before after : Outside) : Type 0 where
   pub files : after.files ≡ before.files
-  pub file_faults : before.file_faults ≤ after.file_faults
-  pub print_faults : before.print_faults ≤ after.print_faults
-  pub refusals : before.refusals ≤ after.refusals
+  pub printed : after.printed ≡ before.printed
 
--- what each answer rests on, in every world: a count that rose, or a number past its limit
-abbrev pub IsCaused : Outside → Status → Outside → Type 0
-IsCaused before Done after = Unit {0}
-IsCaused before (BadWords at) after = Unit {0}
-IsCaused before (BadItems word fault) after = Unit {0}
-IsCaused before (FileFault word) after = Rose before.file_faults after.file_faults
-IsCaused before PrintFault after = Rose before.print_faults after.print_faults
-IsCaused before (TooLong word taken) after = file_limit < taken
-IsCaused before (LargeSet count) after = most_local < count
-IsCaused before NoMemory after = Unit {0}
+-- why no more was done: all was done or memory was wanting, or what was begun failed, which is then the status, and
+-- never comes in a steady world
+abbrev pub IsStoppedAt : Bool → Option Effect → Status → Type 0
+IsStoppedAt steady None why = (why ≡ Done) ⊎ (why ≡ NoMemory)
+IsStoppedAt steady (Some (says text)) why = ((why ≡ PrintFault) × (steady ≡ false)) ⊎ (why ≡ NoMemory)
+IsStoppedAt steady (Some (puts word bytes)) why = ((why ≡ FileFault word) × (steady ≡ false)) ⊎ (why ≡ NoMemory)
 
--- both files of `local` have items, and a fact holds of the receiver's
-pub record HasBoth (words : List (List ℕ)) (files : Files) (P : List (List ℕ) → Type 0) : Type 0 where
-  pub xs : List (List ℕ)
-  pub ys : List (List ℕ)
-  pub x_file : HasItems (Some files) words 1 xs
-  pub y_file : HasItems (Some files) words 2 ys
-  pub fact : P xs
+-- the first so many of what was to do are done whole, the next was not begun or is done in part, and nothing else was
+-- printed or written
+pub record Stands (words : List (List ℕ)) (effects : List Effect) (mid : Outside) (why : Status) (after : Outside)
+    : Type 0 where
+  pub whole : ℕ
+  pub part : Option ℕ
+  pub within : whole ≤ length effects
+  pub stopped : IsStoppedAt mid.steady (slice_get effects whole) why
+  pub files : after.files
+      ≡ (after_part words (after_effects words mid (take whole effects)) (slice_get effects whole) part).files
+  pub printed : after.printed
+      ≡ (after_part words (after_effects words mid (take whole effects)) (slice_get effects whole) part).printed
 
--- the size of the receiver's set is judged once both files have items
-abbrev pub IsSized : List (List ℕ) → Files → Status → Type 0
-IsSized words files Done = HasBoth words files (λ xs. length xs ≤ most_local)
-IsSized words files (BadWords at) = Unit {0}
-IsSized words files (BadItems word fault) = Unit {0}
-IsSized words files (FileFault word) = Unit {0}
-IsSized words files PrintFault = HasBoth words files (λ xs. length xs ≤ most_local)
-IsSized words files (TooLong word taken) = Unit {0}
-IsSized words files (LargeSet count) = HasBoth words files (λ xs. (count ≡ length xs) × (most_local < count))
-IsSized words files NoMemory = Unit {0}
+-- what stands, by what is due: nothing was printed or written before all was read, placed and exchanged
+abbrev pub StandsAt : List (List ℕ) → Outside → Status → Outside → Due → Type 0
+StandsAt words before why after (reached mid effects) = Stands words effects mid why after ⊎ Untouched before after
+StandsAt words before why after _ = Untouched before after
 
--- the same where `local` ran and the files are told
-abbrev pub LocalIsSized : List (List ℕ) → Outside → Status → Type 0
-LocalIsSized words before status = (files : Files) → before.files ≡ Some files → bad_word words ≡ None → command_of words ≡ Some Local → IsSized words files status
+-- what a run that is done read, placed, exchanged and left, in every world: along the whole tree
+abbrev pub Leaves : Known → List (List ℕ) → Tree → Outside → End → Type 0
+Leaves known words (reads word limit next) before end =
+    (bytes : List ℕ) × WasRead known words before word limit bytes × Leaves known words (next bytes) before end
+Leaves known words (refuses verdict) before end = ⊥
+Leaves known words (places word set next) before end =
+    (slots : List Slot) × (later : End) × IsPlacement set.stash set.bins set.candidates slots
+    × (end ≡ record later { placed = slots ∷ later.placed }) × Leaves known words (next slots) before later
+Leaves known words (opens next) before end = Leaves known words next (record before { ready = true }) end
+Leaves known words (talks d next) before end =
+    (taken : List ℕ) × WereTaken known before.incoming taken × ReadSo d before.incoming taken (good taken)
+    × Leaves known words (next taken) (talked before (d.owes taken) taken) end
+Leaves known words (ends wire effects) before end =
+    end ≡ record { status = Done; placed = []; wire = wire; left = after_effects words before effects }
 
--- `local` printed the receiver's items that are shown: every common item, and others of which each shares its tag with the sender's item that it names
-pub record PrintedShown (words : List (List ℕ)) (files : Files) (before after : List ℕ) : Type 0 where
-  pub xs : List (List ℕ)
-  pub ys : List (List ℕ)
-  pub x_file : HasItems (Some files) words 1 xs
-  pub y_file : HasItems (Some files) words 2 ys
-  pub few : length xs ≤ most_local
-  pub printed : after ≡ before ++ lines_text (shown (local_setup words xs) ys)
-  pub placed : map (λ p. p.item) (local_setup words xs).placed ≡ xs
-  pub common : (item : List ℕ) → Contains xs item → Contains ys item → Contains (shown (local_setup words xs) ys) item
-  pub others : (p : Placed) → Contains (shown_placed (local_setup words xs) ys) p → SharesTag (local_setup words xs) ys p
-
--- where `local` is done, and the files and what is printed are told
-abbrev pub LocalPrintsShown : List (List ℕ) → Outside → Status → Outside → Type 0
-LocalPrintsShown words before status after = (files : Files) (printed now : List ℕ) → before.files ≡ Some files → before.printed ≡ Some printed → after.printed ≡ Some now
-    → command_of words ≡ Some Local → status ≡ Done → PrintedShown words files printed now
+-- the same of a command that is done
+abbrev pub DoneLeaves : Known → List (List ℕ) → Outside → End → Type 0
+DoneLeaves known words before end =
+    (command : Command) → command_of words ≡ Some command → end.status ≡ Done
+    → Leaves known words (tree_of command words) before end

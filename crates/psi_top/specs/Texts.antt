@@ -1,16 +1,22 @@
 -- The numbers of the statuses, and the lines that name their faults.
-use Rattle.std.specs.Prelude.{ℕ, List, [], ◌++◌, codes, decimal}
+use Rattle.std.specs.Prelude.{ℕ, List, [], ◌++◌, codes, decimal, length}
 use Rattle.psi_items.specs.declared.errors.BadItems.{BadItems}
 use Rattle.psi_items.specs.declared.errors.BadItems.TheVariants as items
+use Rattle.psi_frames.specs.Expected.{number_of_reason}
+use Rattle.psi_frames.specs.declared.reasons.BadFrame.{BadFrame as RefusedFrame}
 use Rattle.psi_top.specs.declared.status.Status.{Status}
-use Rattle.psi_top.specs.declared.status.Status.TheVariants.{Done, BadWords, BadItems as RefusedItems, FileFault, PrintFault, TooLong, LargeSet, NoMemory}
+use Rattle.psi_top.specs.declared.status.Status.TheVariants.{Done, BadWords, BadItems as RefusedItems, NoPlacement, BadFrame, PeerEnded, FileFault, LinkFault, PrintFault, TooLong, LargeSet, NoMemory}
 
 -- the number of a status
 abbrev pub number_of_status : Status → ℕ
 number_of_status Done = 0
 number_of_status (BadWords at) = 2
 number_of_status (RefusedItems word fault) = 3
+number_of_status (NoPlacement word items touched) = 5
+number_of_status (BadFrame frame) = 6
+number_of_status (PeerEnded offset) = 7
 number_of_status (FileFault word) = 10
+number_of_status LinkFault = 11
 number_of_status PrintFault = 12
 number_of_status (TooLong word taken) = 13
 number_of_status (LargeSet count) = 16
@@ -31,7 +37,8 @@ no_memory_text = codes "psi: no memory\n"
 -- the line of a fault of an item file
 abbrev pub items_text : ℕ → BadItems → List ℕ
 items_text word (items.Byte line found) = line_front word line ++ codes "byte " ++ decimal found ++ codes "\n"
-items_text word (items.Long line length) = line_front word line ++ codes "item of " ++ decimal length ++ codes " bytes\n"
+items_text word (items.Long line length) =
+    line_front word line ++ codes "item of " ++ decimal length ++ codes " bytes\n"
 items_text word (items.Many line) = line_front word line ++ codes "too many items\n"
 items_text word items.NoMemory = no_memory_text
 
@@ -39,12 +46,28 @@ items_text word items.NoMemory = no_memory_text
 abbrev pub too_long_text : ℕ → ℕ → List ℕ
 too_long_text word taken = word_front word ++ codes "too long after " ++ decimal taken ++ codes " bytes\n"
 
+-- the line of a set that has no placement
+abbrev pub crowded_text : ℕ → ℕ → ℕ → List ℕ
+crowded_text word count touched =
+    word_front word ++ decimal count ++ codes " items touch "
+    ++ decimal touched ++ codes " bins\n"
+
+-- the line of a frame that is refused
+abbrev pub frame_text : RefusedFrame → List ℕ
+frame_text frame =
+    codes "psi: frame at " ++ decimal frame.offset ++ codes ": reason " ++ decimal (number_of_reason frame.reason)
+    ++ codes "\n"
+
 -- the line that names a status's fault, with a line feed; nothing where the run is done
 abbrev pub fault_text : Status → List ℕ
 fault_text Done = []
 fault_text (BadWords at) = codes "psi: bad word at " ++ decimal at ++ codes "\n"
 fault_text (RefusedItems word fault) = items_text word fault
+fault_text (NoPlacement word items touched) = crowded_text word (length items) touched
+fault_text (BadFrame frame) = frame_text frame
+fault_text (PeerEnded offset) = codes "psi: peer ended at " ++ decimal offset ++ codes "\n"
 fault_text (FileFault word) = word_front word ++ codes "file fault\n"
+fault_text LinkFault = codes "psi: link fault\n"
 fault_text PrintFault = codes "psi: print fault\n"
 fault_text (TooLong word taken) = too_long_text word taken
 fault_text (LargeSet count) = codes "psi: large set of " ++ decimal count ++ codes " items\n"

@@ -5,8 +5,9 @@ ghost use Rattle.psi_spec.specs.Texts.{lines_text};
 ghost use Rattle.psi_top.specs.Comparing.{IsReady, after_code, after_items, comparison_at, comparisons_from, met_items};
 
 use crate::dealing::Dealt;
+use psi_bits::Word512;
 use psi_items::{Items, digest};
-use psi_oprf::{Tag, Word512, code, own_tag, peer_tag};
+use psi_oprf::{Tag, code, own_tag, peer_tag};
 use std::alloc::{AllocError, Global};
 
 /// An item of the receiver at its row.
@@ -82,7 +83,8 @@ pub fn comparisons(
 // Compares one item of the sender with each of the receiver's.
 fn compare_item(dealt: &Dealt, item: &[u8], comparisons: &mut [Comparison])
     requires { IsReady dealt.now }
-    ensures { comparisons.new ≡ map (after_code dealt.now (code dealt.now.key 0 (item_digest item.now))) comparisons.old }
+    ensures { comparisons.new
+        ≡ map (after_code dealt.now (code dealt.now.key 0 (item_digest item.now))) comparisons.old }
 {
     let code = code(&dealt.key, 0, &digest(item));
     for comparison in comparisons {

@@ -1,8 +1,13 @@
 // The top call.
+ghost use Rattle.std.specs.Prelude.{[]};
 ghost use Rattle.psi_spec.specs.Words.{bad_word};
-ghost use Rattle.psi_top.specs.Answers.{Answers};
-ghost use Rattle.psi_top.specs.Promises.{IsBadWords, IsCaused, IsDue, KeepsRest, LocalIsSized, LocalPrintsShown, OnDue, PrintsFront};
+ghost use Rattle.psi_top.specs.Commands.{Answers};
+ghost use Rattle.psi_top.specs.Deal.{DealWrites};
+ghost use Rattle.psi_top.specs.LocalPromises.{IsOfLocal, LocalShows};
+ghost use Rattle.psi_top.specs.Promises.{Completes, CountsBy, DoneLeaves, IsBadWords, IsDue, IsOfCommand, OnTold, RunsThrough, StandsAt};
+ghost use Rattle.psi_top.specs.Tree.{ended};
 
+use crate::deal::deal_command;
 use crate::form::{Command, bad_word, named_command};
 use crate::local::local_command;
 use crate::status::{Outcome, Status};
@@ -11,7 +16,7 @@ use std::alloc::Global;
 
 // Reads the words, and calls the command that they name.
 fn answer<W: World>(alloc: Global, words: &Words, world: &mut W) -> Outcome
-    ensures { Answers words.now (W.outside world.old) result.status (W.outside world.new) }
+    ensures { Answers W.known words.now (W.outside world.old) (ended result (W.outside world.new)) }
 {
     if let Some(at) = bad_word(words) {
         return Outcome {
@@ -19,6 +24,7 @@ fn answer<W: World>(alloc: Global, words: &Words, world: &mut W) -> Outcome
         };
     }
     match named_command(words) {
+        Some(Command::Deal) => deal_command(alloc, words, world),
         Some(Command::Local) => local_command(alloc, words, world),
         None => Outcome {
             status: Status::BadWords { at: 0 },
@@ -28,30 +34,44 @@ fn answer<W: World>(alloc: Global, words: &Words, world: &mut W) -> Outcome
 
 /// Does all that the program does: reads the words of a command, and carries the command out.
 pub fn run<W: World>(alloc: Global, words: &Words, world: &mut W) -> Outcome
-    // What is answered, why, and what then stands, in one relation. The other clauses follow from it.
-    ensures answers { Answers words.now (W.outside world.old) result.status (W.outside world.new) }
+    // How the run followed the tree of its command, step by step. The other clauses follow from it.
+    ensures answers { Answers W.known words.now (W.outside world.old) (ended result (W.outside world.new)) }
 
     // A bad word is refused at its place, and no other words are.
     ensures bad_words { IsBadWords result.status (bad_word words.now) }
 
-    // A fault of a file or of printing comes only where its count rose, and a file is too long only past the limit.
-    ensures cause { IsCaused (W.outside world.old) result.status (W.outside world.new) }
+    // A bad word changes nothing. A fault of the outside comes only where its count rose, in a steady world none does
+    // but that of a missing file, and no other count changes.
+    ensures counts { CountsBy words.now (W.outside world.old) result.status (W.outside world.new) (bad_word words.now) }
 
-    // Where the files are told, each refusal of a file or a set comes only where it is due, in order: that of a file that
-    // was not read, where it would be due if the file were missing.
-    ensures exact { OnDue words.now (W.outside world.old) (IsDue result.status) }
+    // In every world there are contents, each given by a read of the file of its word, for which the status follows.
+    ensures status { IsOfCommand W.known words.now (W.outside world.old) result.status }
 
-    // A set is large where both files have items and the receiver's are more than four, and else it never is.
-    ensures sized { LocalIsSized words.now (W.outside world.old) result.status }
+    // Where the contents are told, each refusal comes only where it is due, in the order of the steps.
+    ensures exact { OnTold words.now (W.outside world.old) [] (IsDue result.status) }
 
-    // A front of the text that is due is printed, and all of it where the run is done.
-    ensures prints { OnDue words.now (W.outside world.old) (PrintsFront (W.outside world.old) (W.outside world.new) result.status) }
+    // Where no fault was counted or the world is steady, what is due is answered, or memory was wanting.
+    ensures complete { OnTold words.now (W.outside world.old) []
+        (Completes (W.outside world.old) result.status (W.outside world.new)) }
 
-    // The files stay, and no count falls.
-    ensures kept { KeepsRest (W.outside world.old) (W.outside world.new) }
+    // From valid files the run is done in such a world, or memory was wanting.
+    ensures through { RunsThrough words.now (W.outside world.old) (ended result (W.outside world.new)) }
+
+    // Nothing is printed or written before all is read; then each effect is whole, in part or not begun, in order.
+    ensures stands { OnTold words.now (W.outside world.old) []
+        (λ d contents. StandsAt words.now (W.outside world.old) result.status (W.outside world.new) (d contents)) }
+
+    // What a run that is done read and left, in every world.
+    ensures done { DoneLeaves W.known words.now (W.outside world.old) (ended result (W.outside world.new)) }
+
+    // `deal` writes the two files of a pair of deals, and changes nothing else.
+    ensures dealt { DealWrites words.now (W.outside world.old) (ended result (W.outside world.new)) }
+
+    // What `local` may answer, in its own words: its files are judged in order, and then the size of the set.
+    ensures local { IsOfLocal W.known words.now (W.outside world.old) result.status }
 
     // `local` prints every common item, and each other printed item shares its tag with a named sender item.
-    ensures shown { LocalPrintsShown words.now (W.outside world.old) result.status (W.outside world.new) }
+    ensures shown { LocalShows W.known words.now (W.outside world.old) (ended result (W.outside world.new)) }
 {
     answer(alloc, words, world)
 }

@@ -1,16 +1,16 @@
 // The forms of a command's words.
-ghost use Rattle.std.specs.Prelude.{◌≡◌, ◌+◌, ◌<◌, length, Some};
-ghost use Rattle.std.specs.Char.{is_ascii_digit};
-ghost use Rattle.std.specs.List.{list_all};
-ghost use Rattle.psi_spec.specs.Words.{are_digits, bad_from, bad_word, forms_of, is_seed, is_session, is_tag_length, word_at};
+ghost use Rattle.std.specs.Prelude.{◌≡◌, ◌+◌, ◌<◌, ◌≤◌, length, Some};
+ghost use Rattle.psi_spec.specs.Words.{bad_from, bad_optional, bad_word, forms_of, is_output, word_at};
 ghost use Rattle.psi_top.specs.Form.{command_of, name_of, test_of, tests_of};
 
-use hex::FromHex;
+use crate::values::{are_sizes, is_seed, is_session, is_tag_length};
 use psi_base::Words;
 
 /// The commands.
 #[derive(Clone, Copy, Debug, PartialEq, Eq)]
 pub enum Command {
+    /// The two deal files of a seed.
+    Deal,
     /// Both ends of a session in one run.
     Local,
 }
@@ -20,79 +20,93 @@ pub enum Command {
 pub enum Form {
     /// The name of a file: any text but the empty one.
     Name,
+    /// The name of a file that is written: none of the names of files at the places from `from` up to, and without,
+    /// `to`.
+    Output { from: u8, to: u8 },
     /// A seed: 64 hexadecimal digits of either case.
     Seed,
     /// The number of a session: 1 to 20 decimal digits with a value below 2^64.
     Session,
+    /// The length of a tag in bytes, alone or with a stroke and the number of stash rows behind it: each 1 or 2
+    /// decimal digits, with a value from 1 to 16 and of at most 16.
+    Sizes,
     /// The length of a tag in bytes: 1 or 2 decimal digits with a value from 1 to 16.
     TagLength,
 }
 
+/// The forms of the words after a command's name.
+#[derive(Clone, Copy, Debug)]
+pub struct CommandForms {
+    /// The forms of the words that must be there.
+    pub needed: &'static [Form],
+    /// The forms of the words that may follow.
+    pub optional: &'static [Form],
+}
+
 impl Command {
+    ghost use Rattle.psi_top.specs.Form.{forms_seen};
+
     // The forms of the words after the command's name.
-    fn forms(self) -> &'static [Form]
-        ensures { Some (tests_of result.now) ≡ forms_of (name_of self) }
+    fn forms(self) -> CommandForms
+        ensures forms { Some (forms_seen result) ≡ forms_of (name_of self) }
+        ensures few { length result.needed.now + length result.optional.now ≤ 8 }
     {
         match self {
-            Command::Local => &[
-                Form::Name,
-                Form::Name,
-                Form::Seed,
-                Form::Session,
-                Form::TagLength,
-            ],
+            Command::Deal => CommandForms {
+                needed: &[
+                    Form::Seed,
+                    Form::Session,
+                    Form::Sizes,
+                    Form::Name,
+                    Form::Output { from: 4, to: 5 },
+                ],
+                optional: &[],
+            },
+            Command::Local => CommandForms {
+                needed: &[
+                    Form::Name,
+                    Form::Name,
+                    Form::Seed,
+                    Form::Session,
+                    Form::TagLength,
+                ],
+                optional: &[],
+            },
         }
     }
 }
 
 impl Form {
-    /// Whether the word has this form.
-    pub fn fits(self, word: &str) -> bool
-        ensures { result ≡ test_of self word.now }
+    /// Whether the word at this place, counted from 0, has this form.
+    pub fn fits(self, words: &Words, at: usize) -> bool
+        ensures { result ≡ test_of self words.now at }
     {
+        let word = word_at(words, at);
         match self {
             Form::Name => !word.is_empty(),
+            Form::Output { from, to } => is_output(words, from, to, at),
             Form::Seed => is_seed(word),
             Form::Session => is_session(word),
+            Form::Sizes => are_sizes(word),
             Form::TagLength => is_tag_length(word),
         }
     }
 }
 
-fn is_seed(word: &str) -> bool
-    ensures { result ≡ is_seed word.now }
+// Whether the word at a place is the name of a file, and none of the words from `from` on and before `to`.
+fn is_output(words: &Words, from: u8, to: u8, at: usize) -> bool
+    ensures { result ≡ is_output from to words.now at }
 {
-    <[u8; 32] as FromHex>::from_hex(word).is_ok()
-}
-
-fn all_digits(word: &str) -> bool
-    ensures { result ≡ list_all is_ascii_digit word.now }
-{
-    word.as_bytes().iter().all(|byte| byte.is_ascii_digit())
-}
-
-fn are_digits(word: &str, most: usize) -> bool
-    ensures { result ≡ are_digits most word.now }
-{
-    1 <= word.len() && word.len() <= most && all_digits(word)
-}
-
-fn is_session(word: &str) -> bool
-    ensures { result ≡ is_session word.now }
-{
-    are_digits(word, 20) && word.parse::<u64>().is_ok()
-}
-
-fn is_tag_length(word: &str) -> bool
-    ensures { result ≡ is_tag_length word.now }
-{
-    if !are_digits(word, 2) {
+    let word = word_at(words, at);
+    if word.is_empty() {
         return false;
     }
-    match word.parse::<u8>() {
-        Ok(length) => (1..=16).contains(&length),
-        Err(_) => false,
+    for place in from..to {
+        if word_at(words, usize::from(place)) == word {
+            return false;
+        }
     }
+    true
 }
 
 /// The word at this place, counted from 0, and the empty text past the end.
@@ -109,32 +123,44 @@ pub fn word_at<'a>(words: &'a Words, at: usize) -> &'a str
 pub fn named_command(words: &Words) -> Option<Command>
     ensures { result ≡ command_of words.now }
 {
-    if word_at(words, 0) == "local" {
+    let name = word_at(words, 0);
+    if name == "local" {
         Some(Command::Local)
+    } else if name == "deal" {
+        Some(Command::Deal)
     } else {
         None
     }
 }
 
-// The least place from `at` on whose word is missing, out of form or one too many.
-fn bad_from(words: &Words, forms: &[Form], at: u32) -> Option<u32>
+// The least place from `at` on whose word is out of form or one too many, where each may be missing.
+fn bad_optional(words: &Words, forms: &[Form], at: u32) -> Option<u32>
     requires { at + length forms.now < 100 }
-    ensures { result ≡ bad_from (tests_of forms.now) words.now at }
+    ensures { result ≡ bad_optional (tests_of forms.now) words.now at }
 {
+    if at as usize >= words.len() {
+        return None;
+    }
     match forms {
-        [] => if (at as usize) < words.len() {
-            Some(at)
-        } else {
-            None
-        },
-        [form, rest @ ..] => match words.get(at as usize) {
-            None => Some(at),
-            Some(word) => if form.fits(word) {
-                bad_from(words, rest, at + 1)
+        [form, rest @ ..] if form.fits(words, at as usize) => bad_optional(words, rest, at + 1),
+        _ => Some(at),
+    }
+}
+
+// The least place from `at` on whose word is missing, out of form or one too many.
+fn bad_from(words: &Words, needed: &[Form], optional: &[Form], at: u32) -> Option<u32>
+    requires { at + length needed.now + length optional.now < 100 }
+    ensures { result ≡ bad_from (tests_of needed.now) (tests_of optional.now) words.now at }
+{
+    match needed {
+        [] => bad_optional(words, optional, at),
+        [form, rest @ ..] => {
+            if (at as usize) < words.len() && form.fits(words, at as usize) {
+                bad_from(words, rest, optional, at + 1)
             } else {
                 Some(at)
-            },
-        },
+            }
+        }
     }
 }
 
@@ -144,6 +170,9 @@ pub fn bad_word(words: &Words) -> Option<u32>
 {
     match named_command(words) {
         None => Some(0),
-        Some(command) => bad_from(words, command.forms(), 1),
+        Some(command) => {
+            let forms = command.forms();
+            bad_from(words, forms.needed, forms.optional, 1)
+        }
     }
 }

@@ -2,6 +2,7 @@
 #![tactic(auto)]
 
 mod comparing;
+mod deal;
 mod dealing;
 mod entry;
 mod form;
@@ -11,8 +12,9 @@ mod steps;
 mod texts;
 mod values;
 
+pub use deal::deal_command;
 pub use entry::run;
-pub use form::{Command, Form, bad_word, named_command};
+pub use form::{Command, CommandForms, Form, bad_word, named_command};
 pub use local::local_command;
 pub use status::{Outcome, Status, status_number};
 pub use texts::fault_line;

@@ -1,17 +1,18 @@
 // Both ends of a session in one run.
-ghost use Rattle.std.specs.Prelude.{◌≡◌, ◌≤◌, IfOk, Some, None, length};
+ghost use Rattle.std.specs.Prelude.{◌≡◌, ◌≤◌, ◌∷◌, [], IfOk, Some, None, length};
 ghost use Rattle.psi_spec.specs.Words.{bad_word, number_of, seed_of, word_at};
-ghost use Rattle.psi_top.specs.Answers.{Ends, FollowsTold, HasCause, local_due, local_rest};
 ghost use Rattle.psi_top.specs.Comparing.{IsDealt, IsReady};
 ghost use Rattle.psi_top.specs.Form.{command_of};
-ghost use Rattle.psi_top.specs.Local.{local_text, most_local};
+ghost use Rattle.psi_top.specs.Local.{few_enough, local_text, local_tree, most_local};
+ghost use Rattle.psi_top.specs.Tree.{end_of, ended, ends, says};
+ghost use Rattle.psi_top.specs.Walk.{Runs, Settles};
 
 use crate::comparing::{compare_items, comparisons, met_text};
 use crate::dealing::Dealt;
 use crate::form::{Command, word_at};
-use crate::status::{Outcome, Status};
+use crate::status::{Outcome, Status, outcome_of};
 use crate::steps::{print_text, read_items};
-use crate::values::{seed_of, session_of, tag_length_of};
+use crate::values::{number_of_tag_length, seed_of, session_of};
 use psi_base::{Words, World, bins};
 use psi_items::Items;
 use std::alloc::{AllocError, Global};
@@ -23,12 +24,13 @@ const MOST_ITEMS: u32 = 4;
 fn local_deal(alloc: Global, words: &Words) -> Result<Dealt, AllocError>
     requires fit { bad_word words.now ≡ None }
     requires named { command_of words.now ≡ Some Command.Local }
-    ensures dealt { IfOk result (IsDealt (seed_of (word_at words.now 3)) (number_of (word_at words.now 4)) (number_of (word_at words.now 5))) }
+    ensures dealt { IfOk result (IsDealt (seed_of (word_at words.now 3)) (number_of (word_at words.now 4))
+        (number_of (word_at words.now 5))) }
     ensures ready { IfOk result IsReady }
 {
     let seed = seed_of(word_at(words, 3));
     let session = session_of(word_at(words, 4));
-    let tag_length = tag_length_of(word_at(words, 5));
+    let tag_length = number_of_tag_length(word_at(words, 5));
     Dealt::new(alloc, &seed, session, tag_length)
 }
 
@@ -45,43 +47,53 @@ fn local_text(alloc: Global, words: &Words, x: &Items, y: &Items) -> Result<Vec<
     met_text(alloc, &compared, x)
 }
 
-// What is done once both files are read.
-fn finish_local<W: World>(
+// Refuses a set of too many items.
+#[tactic(auto, unfolding(crate::specs::Local::few_enough))]
+fn few_enough(x: &Items) -> Result<(), Status>
+    ensures settles { Settles (few_enough x.now) result }
+    ensures few { IfOk result (λ _. length x.now ≤ most_local) }
+{
+    let count = x.len();
+    if count > MOST_ITEMS {
+        return Err(Status::LargeSet { count });
+    }
+    Ok(())
+}
+
+// Prints the receiver's items that are shown.
+#[tactic(auto, using(crate::proofs::Walks::walk))]
+fn print_shown<W: World>(
     alloc: Global,
     words: &Words,
     x: &Items,
     y: &Items,
     world: &mut W,
-) -> Status
+) -> Result<Outcome, Status>
     requires fit { bad_word words.now ≡ None }
     requires named { command_of words.now ≡ Some Command.Local }
-    ensures { Ends (local_rest words.now x.now y.now) (W.outside world.old) result (W.outside world.new) }
+    requires few { length x.now ≤ most_local }
+    ensures { Runs W.known words.now (ends None (says (local_text words.now x.now y.now) ∷ []))
+        (W.outside world.old) (end_of result (W.outside world.new)) }
 {
-    let count = x.len();
-    if count > MOST_ITEMS {
-        return Status::LargeSet { count };
-    }
-    match local_text(alloc, words, x, y) {
-        Ok(text) => print_text(world, &text),
-        Err(_) => Status::NoMemory,
-    }
+    let text = local_text(alloc, words, x, y)?;
+    print_text(&text, world)?;
+    Ok(Outcome {
+        status: Status::Done,
+    })
 }
 
-fn local_status<W: World>(alloc: Global, words: &Words, world: &mut W) -> Status
+// What `local` does. A refusal before there is an outcome is answered as an error.
+#[tactic(auto, using(crate::proofs::Walks::walk))]
+fn local_steps<W: World>(alloc: Global, words: &Words, world: &mut W) -> Result<Outcome, Status>
     requires fit { bad_word words.now ≡ None }
     requires named { command_of words.now ≡ Some Command.Local }
-    ensures cause { HasCause (W.outside world.old) result (W.outside world.new) }
-    ensures answers { FollowsTold (local_due words.now) words.now (W.outside world.old) result (W.outside world.new) }
+    ensures { Runs W.known words.now (local_tree words.now) (W.outside world.old)
+        (end_of result (W.outside world.new)) }
 {
-    let x = match read_items(alloc, words, 1, world) {
-        Ok(x) => x,
-        Err(status) => return status,
-    };
-    let y = match read_items(alloc, words, 2, world) {
-        Ok(y) => y,
-        Err(status) => return status,
-    };
-    finish_local(alloc, words, &x, &y, world)
+    let x = read_items(alloc, words, 1, world)?;
+    let y = read_items(alloc, words, 2, world)?;
+    few_enough(&x)?;
+    print_shown(alloc, words, &x, &y, world)
 }
 
 /// Deals, runs both ends of a session in memory, and prints the receiver's items that are shown.
@@ -92,10 +104,8 @@ fn local_status<W: World>(alloc: Global, words: &Words, world: &mut W) -> Status
 pub fn local_command<W: World>(alloc: Global, words: &Words, world: &mut W) -> Outcome
     requires fit { bad_word words.now ≡ None }
     requires named { command_of words.now ≡ Some Command.Local }
-    ensures cause { HasCause (W.outside world.old) result.status (W.outside world.new) }
-    ensures answers { FollowsTold (local_due words.now) words.now (W.outside world.old) result.status (W.outside world.new) }
+    ensures { Runs W.known words.now (local_tree words.now) (W.outside world.old)
+        (ended result (W.outside world.new)) }
 {
-    Outcome {
-        status: local_status(alloc, words, world),
-    }
+    outcome_of(local_steps(alloc, words, world))
 }

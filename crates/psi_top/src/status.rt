@@ -1,35 +1,96 @@
 // What a run answers.
 ghost use Rattle.std.specs.Prelude.{◌≡◌};
+ghost use Rattle.psi_base.specs.Outside.{Outside};
 ghost use Rattle.psi_top.specs.Texts.{number_of_status};
+ghost use Rattle.psi_top.specs.Tree.{end_of, ended};
+ghost use Rattle.psi_top.specs.declared.status.Status.TheVariants as status;
 
+use psi_base::{NoMemory, Places};
+use psi_frames::BadFrame;
 use psi_items::BadItems;
+use std::alloc::AllocError;
 
-/// How a run ended.
-#[derive(Clone, Copy, Debug, PartialEq, Eq)]
+/// How a run ended. The words of a command are counted from its name, which is word 0.
+#[derive(Debug, Drop, PartialEq, Eq)]
 pub enum Status {
     /// All was done.
     Done,
     /// The words are not a command: `at` is the least place, counted from 0, whose word fails its form.
-    BadWords { at: u32 },
-    /// The item file that this word names has a line with a fault.
-    BadItems { word: u8, fault: BadItems },
-    /// The file that this word names could not be read.
-    FileFault { word: u8 },
+    BadWords {
+        at: u32,
+    },
+    /// The item file that this word names has a line with a fault. The fault is never want of memory.
+    BadItems {
+        word: u8,
+        fault: BadItems,
+    },
+    /// The set of the file that this word names has no placement: these items, by their places and rising, name only
+    /// `touched` bins, and are more than these and the rows of the stash. No command places a set yet.
+    NoPlacement {
+        word: u8,
+        items: Places,
+        touched: u32,
+    },
+    /// The peer sent a frame that is refused. No command has a peer yet.
+    BadFrame(BadFrame),
+    /// The peer sent no more, where the frame that begins at `offset` of its bytes was due. No command has a peer
+    /// yet.
+    PeerEnded {
+        offset: u64,
+    },
+    /// The file that this word names could not be read or written.
+    FileFault {
+        word: u8,
+    },
+    /// The link could not be opened, or failed. No command opens it yet.
+    LinkFault,
     /// The text could not be printed whole.
     PrintFault,
-    /// The file that this word names has more than 33,554,432 bytes; `taken` bytes of it were taken.
-    TooLong { word: u8, taken: u64 },
+    /// The file that this word names has more bytes than are read of it, which is 33,554,432; `taken` bytes of it
+    /// were taken, and it has at least as many.
+    TooLong {
+        word: u8,
+        taken: u64,
+    },
     /// The receiver has this many items, which are more than four.
-    LargeSet { count: u32 },
+    LargeSet {
+        count: u32,
+    },
     /// Memory was wanting.
     NoMemory,
 }
 
 /// All that a run answers.
-#[derive(Clone, Copy, Debug, PartialEq, Eq)]
+#[derive(Debug, Drop, PartialEq, Eq)]
 pub struct Outcome {
     /// How it ended.
     pub status: Status,
+}
+
+impl From<AllocError> for Status {
+    ghost from_gives = { λ _ why. why ≡ status.NoMemory };
+
+    fn from(_: AllocError) -> Status {
+        Status::NoMemory
+    }
+}
+
+impl From<NoMemory> for Status {
+    ghost from_gives = { λ _ why. why ≡ status.NoMemory };
+
+    fn from(_: NoMemory) -> Status {
+        Status::NoMemory
+    }
+}
+
+/// The outcome, or one of a status that was answered before there was one.
+pub fn outcome_of(answer: Result<Outcome, Status>) -> Outcome
+    ensures { (after : Outside) → ended result after ≡ end_of answer after }
+{
+    match answer {
+        Ok(outcome) => outcome,
+        Err(status) => Outcome { status },
+    }
 }
 
 /// The number with which the program ends at this status.
@@ -40,7 +101,11 @@ pub fn status_number(status: &Status) -> u8
         Status::Done => 0,
         Status::BadWords { .. } => 2,
         Status::BadItems { .. } => 3,
+        Status::NoPlacement { .. } => 5,
+        Status::BadFrame(_) => 6,
+        Status::PeerEnded { .. } => 7,
         Status::FileFault { .. } => 10,
+        Status::LinkFault => 11,
         Status::PrintFault => 12,
         Status::TooLong { .. } => 13,
         Status::LargeSet { .. } => 16,

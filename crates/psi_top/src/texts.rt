@@ -1,10 +1,11 @@
 // The lines that name faults.
 ghost use Rattle.std.specs.Prelude.{◌≡◌, ◌+◌, ◌≤◌, ◌++◌, length, take, decimal};
-ghost use Rattle.psi_top.specs.Texts.{fault_text, items_text, line_front, too_long_text, word_front};
+ghost use Rattle.psi_top.specs.Texts.{crowded_text, fault_text, frame_text, items_text, line_front, too_long_text, word_front};
 
 use crate::status::Status;
 use arrayvec::ArrayString;
 use itoa::Buffer;
+use psi_frames::BadFrame;
 use psi_items::BadItems;
 
 /// The longest line that names a fault, in bytes.
@@ -27,15 +28,35 @@ impl Line {
         Line { text }
     }
 
+    // The line with a text at its end.
+    fn with(mut self, text: &str) -> Line
+        requires { length self.text.bytes + length text.now ≤ 120 }
+        ensures text { result.text.bytes ≡ self.text.bytes ++ text.now }
+        ensures short { length result.text.bytes ≤ length self.text.bytes + length text.now }
+    {
+        self.text.push_str(text);
+        self
+    }
+
+    // The line with a number at its end.
+    fn with_number(mut self, number: u64) -> Line
+        requires { length self.text.bytes + 20 ≤ 120 }
+        ensures text { result.text.bytes ≡ self.text.bytes ++ decimal number }
+        ensures short { length result.text.bytes ≤ length self.text.bytes + 20 }
+    {
+        let mut buffer = Buffer::new();
+        self.text.push_str(buffer.format(number));
+        self
+    }
+
     // A line about the file of a word.
     fn about_word(word: u8) -> Line
         ensures text { result.text.bytes ≡ word_front word }
         ensures short { length result.text.bytes ≤ 32 }
     {
-        let mut line = Line::begin("psi: word ");
-        line.push_number(u64::from(word));
-        line.push(": ");
-        line
+        Line::begin("psi: word ")
+            .with_number(u64::from(word))
+            .with(": ")
     }
 
     // A line about a line of that file.
@@ -43,18 +64,42 @@ impl Line {
         ensures text { result.text.bytes ≡ line_front word number }
         ensures short { length result.text.bytes ≤ 59 }
     {
-        let mut line = Line::about_word(word);
-        line.push("line ");
-        line.push_number(u64::from(number));
-        line.push(": ");
-        line
+        Line::about_word(word)
+            .with("line ")
+            .with_number(u64::from(number))
+            .with(": ")
     }
 
     // A line about a file that is too long.
     fn about_length(word: u8, taken: u64) -> Line
         ensures { result.text.bytes ≡ too_long_text word taken }
     {
-        Line::about_word(word).with("too long after ", taken, " bytes\n")
+        Line::about_word(word)
+            .with("too long after ")
+            .with_number(taken)
+            .with(" bytes\n")
+    }
+
+    // A line about a set that has no placement.
+    fn about_crowd(word: u8, count: u64, touched: u32) -> Line
+        ensures { result.text.bytes ≡ crowded_text word count touched }
+    {
+        Line::about_word(word)
+            .with_number(count)
+            .with(" items touch ")
+            .with_number(u64::from(touched))
+            .with(" bins\n")
+    }
+
+    // A line about a frame that is refused.
+    fn about_frame(frame: BadFrame) -> Line
+        ensures { result.text.bytes ≡ frame_text frame }
+    {
+        Line::begin("psi: frame at ")
+            .with_number(frame.offset)
+            .with(": reason ")
+            .with_number(u64::from(frame.reason.number()))
+            .with("\n")
     }
 
     // A line about a fault of an item file.
@@ -62,70 +107,55 @@ impl Line {
         ensures { result.text.bytes ≡ items_text word fault }
     {
         match fault {
-            BadItems::Byte { line, found } => {
-                Line::about_line(word, line).with("byte ", u64::from(found), "\n")
-            }
-            BadItems::Long { line, length } => {
-                Line::about_line(word, line).with("item of ", u64::from(length), " bytes\n")
-            }
-            BadItems::Many { line } => {
-                let mut line = Line::about_line(word, line);
-                line.push("too many items\n");
-                line
-            }
+            BadItems::Byte { line, found } => Line::about_line(word, line)
+                .with("byte ")
+                .with_number(u64::from(found))
+                .with("\n"),
+            BadItems::Long { line, length } => Line::about_line(word, line)
+                .with("item of ")
+                .with_number(u64::from(length))
+                .with(" bytes\n"),
+            BadItems::Many { line } => Line::about_line(word, line).with("too many items\n"),
             BadItems::NoMemory => Line::begin("psi: no memory\n"),
         }
+    }
+
+    // A line of a number between two texts.
+    fn about_number(front: &str, number: u64, end: &str) -> Line
+        requires { length front.now + 20 + length end.now ≤ 120 }
+        ensures { result.text.bytes ≡ front.now ++ decimal number ++ end.now }
+    {
+        Line::begin(front).with_number(number).with(end)
     }
 
     // The line that names the status's fault.
     fn about(status: &Status) -> Line
         ensures { result.text.bytes ≡ fault_text status.now }
     {
-        match *status {
+        match status {
             Status::Done => Line::begin(""),
             Status::BadWords { at } => {
-                Line::begin("psi: bad word at ").with("", u64::from(at), "\n")
+                Line::about_number("psi: bad word at ", u64::from(*at), "\n")
             }
-            Status::BadItems { word, fault } => Line::about_items(word, fault),
-            Status::FileFault { word } => {
-                let mut line = Line::about_word(word);
-                line.push("file fault\n");
-                line
+            Status::BadItems { word, fault } => Line::about_items(*word, *fault),
+            Status::NoPlacement {
+                word,
+                items,
+                touched,
+            } => Line::about_crowd(*word, items.len() as u64, *touched),
+            Status::BadFrame(frame) => Line::about_frame(*frame),
+            Status::PeerEnded { offset } => {
+                Line::about_number("psi: peer ended at ", *offset, "\n")
             }
+            Status::FileFault { word } => Line::about_word(*word).with("file fault\n"),
+            Status::LinkFault => Line::begin("psi: link fault\n"),
             Status::PrintFault => Line::begin("psi: print fault\n"),
-            Status::TooLong { word, taken } => Line::about_length(word, taken),
+            Status::TooLong { word, taken } => Line::about_length(*word, *taken),
             Status::LargeSet { count } => {
-                Line::begin("psi: large set of ").with("", u64::from(count), " items\n")
+                Line::about_number("psi: large set of ", u64::from(*count), " items\n")
             }
             Status::NoMemory => Line::begin("psi: no memory\n"),
         }
-    }
-
-    // The line with a text, a number and a text at its end.
-    fn with(mut self, before: &str, number: u64, after: &str) -> Line
-        requires { length self.text.bytes + length before.now + 20 + length after.now ≤ 120 }
-        ensures { result.text.bytes ≡ self.text.bytes ++ before.now ++ decimal number ++ after.now }
-    {
-        self.push(before);
-        self.push_number(number);
-        self.push(after);
-        self
-    }
-
-    fn push(&mut self, text: &str)
-        requires { length self.old.text.bytes + length text.now ≤ 120 }
-        ensures { self.new.text.bytes ≡ self.old.text.bytes ++ text.now }
-    {
-        self.text.push_str(text);
-    }
-
-    fn push_number(&mut self, number: u64)
-        requires { length self.old.text.bytes + 20 ≤ 120 }
-        ensures text { self.new.text.bytes ≡ self.old.text.bytes ++ decimal number }
-        ensures short { length self.new.text.bytes ≤ length self.old.text.bytes + 20 }
-    {
-        let mut buffer = Buffer::new();
-        self.text.push_str(buffer.format(number));
     }
 }
 

@@ -26,20 +26,20 @@ fn dealt_bytes(alloc: Global, seed: &[u8; 32]) -> Result<Vec<u8>, AllocError>
     Ok(bytes)
 }
 
-/// The head of the deals of a seed, whatever their session and tag length. Err where memory is
-/// wanting.
+/// The head of the deals of a seed, whatever their session, tag length and stash rows. Err where
+/// memory is wanting.
 #[tactic(auto, unfolding(crate::specs::Deals::dealt_sender, crate::specs::Deals::dealt_receiver))]
 pub fn deal_head(alloc: Global, seed: &[u8; 32]) -> Result<DealHead, AllocError>
-    ensures id { IfOk result (λ head. (session tag_length : ℕ) →
-        head.id ≡ (dealt_sender seed.now session tag_length).id) }
-    ensures key { IfOk result (λ head. (session tag_length : ℕ) →
-        head.key ≡ (dealt_sender seed.now session tag_length).key) }
-    ensures choice { IfOk result (λ head. (session tag_length : ℕ) →
-        head.choice ≡ (dealt_sender seed.now session tag_length).choice) }
-    ensures both_id { IfOk result (λ head. (session tag_length : ℕ) →
-        head.id ≡ (dealt_receiver seed.now session tag_length).id) }
-    ensures both_key { IfOk result (λ head. (session tag_length : ℕ) →
-        head.key ≡ (dealt_receiver seed.now session tag_length).key) }
+    ensures id { IfOk result (λ head. (session tag_length stash : ℕ) →
+        head.id ≡ (dealt_sender seed.now session tag_length stash).id) }
+    ensures key { IfOk result (λ head. (session tag_length stash : ℕ) →
+        head.key ≡ (dealt_sender seed.now session tag_length stash).key) }
+    ensures choice { IfOk result (λ head. (session tag_length stash : ℕ) →
+        head.choice ≡ (dealt_sender seed.now session tag_length stash).choice) }
+    ensures both_id { IfOk result (λ head. (session tag_length stash : ℕ) →
+        head.id ≡ (dealt_receiver seed.now session tag_length stash).id) }
+    ensures both_key { IfOk result (λ head. (session tag_length stash : ℕ) →
+        head.key ≡ (dealt_receiver seed.now session tag_length stash).key) }
 {
     let bytes = dealt_bytes(alloc, seed)?;
     let mut head = DealHead {

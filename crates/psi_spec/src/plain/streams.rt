@@ -6,7 +6,6 @@ use rand_chacha::ChaCha20Rng;
 use rand_core::{Rng, SeedableRng};
 
 /// Fills `out` with the first bytes of the key stream of a seed and a stream number.
-#[tactic(auto, unfolding(crate::specs::Columns::key_stream, rand_core::specs::Stream::fill_bytes, rand_core::specs::Steps::stream_of))]
 pub fn key_stream(seed: &[u8; 32], stream: u64, out: &mut [u8])
     ensures { out.new ≡ stream_of seed.now stream (length out.old) }
 {

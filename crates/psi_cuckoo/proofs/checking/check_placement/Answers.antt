@@ -2,14 +2,13 @@ use Rattle.std.proofs.Common.{◌≡◌, ◌≢◌, ℕ, Some, length, map, sym,
 use Rattle.std.specs.Prelude.{IsOkUnless, Result, Err}
 use Rattle.std.proofs.lemmas.List.{length-map}
 use Rattle.std.proofs.lemmas.Result.{err_from_is_err_and}
-use Rattle.psi_spec.proofs.Crowding.{length_zip}
 use Rattle.psi_spec.specs.Placement.{IsPlacement}
 use Rattle.psi_cuckoo.specs.Table.{slot_of}
 use Rattle.psi_cuckoo.specs.Refusal.{first_fault}
 use Rattle.psi_cuckoo.specs.declared.errors.BadSlots.{BadSlots}
 use Rattle.psi_cuckoo.specs.declared.errors.BadSlots.TheVariants.{NoMemory}
 use Rattle.psi_cuckoo.specs.declared.placement.Placement.{Placement}
-use Rattle.psi_cuckoo.proofs.Judging.{first_is_none, only_memory, placement_right}
+use Rattle.psi_cuckoo.proofs.Judging.{first_is_none, length_zip, only_memory, placement_right}
 use Rattle.psi_cuckoo.proofs.Placed.{name_bins, placement_from_seats}
 use Rattle.psi_cuckoo.proofs.checking.check_placement.Goals as goal
 

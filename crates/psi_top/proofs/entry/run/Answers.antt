@@ -1,27 +1,49 @@
-use Rattle.psi_top.proofs.Laws.{answers_bad_words, answers_caused, answers_exact, answers_keep, answers_print, answers_shown, answers_sized}
+use Rattle.psi_top.specs.Tree.{ended}
+use Rattle.psi_top.proofs.Laws.{answers_bad_words, answers_complete, answers_counted, answers_done, answers_exact, answers_of_command, answers_stand, answers_through}
+use Rattle.psi_top.proofs.DealLaws.{answers_dealt}
+use Rattle.psi_top.proofs.LocalLaws.{answers_local, answers_shown}
 use Rattle.psi_top.proofs.entry.run.Goals as goal
 
-pub returns-clause-exact : goal.returns-clause-exact
-returns-clause-exact g c = answers_exact c.args.words.now (g.W.World.outside c.args.world.now) c.answer.result.status (g.W.World.outside c.answer.new.world) c.answer.ensures
-
-pub returns-clause-prints : goal.returns-clause-prints
-returns-clause-prints g c = answers_print c.args.words.now (g.W.World.outside c.args.world.now) c.answer.result.status (g.W.World.outside c.answer.new.world) c.answer.ensures
-
-pub returns-clause-kept : goal.returns-clause-kept
-returns-clause-kept g c = answers_keep c.args.words.now (g.W.World.outside c.args.world.now) c.answer.result.status (g.W.World.outside c.answer.new.world) c.answer.ensures
-
-pub returns-clause-cause : goal.returns-clause-cause
-returns-clause-cause g c = answers_caused c.args.words.now (g.W.World.outside c.args.world.now) c.answer.result.status (g.W.World.outside c.answer.new.world) c.answer.ensures
-
-pub returns-clause-sized : goal.returns-clause-sized
-returns-clause-sized g c = answers_sized c.args.words.now (g.W.World.outside c.args.world.now) c.answer.result.status (g.W.World.outside c.answer.new.world) c.answer.ensures
-
 pub returns-clause-bad_words : goal.returns-clause-bad_words
-returns-clause-bad_words g c = answers_bad_words c.args.words.now (g.W.World.outside c.args.world.now) c.answer.result.status (g.W.World.outside c.answer.new.world) c.answer.ensures
+returns-clause-bad_words g c =
+    answers_bad_words g.W.World.known c.args.words.now (g.W.World.outside c.args.world.now) (ended c.answer.result (g.W.World.outside c.answer.new.world)) c.answer.ensures
+
+pub returns-clause-counts : goal.returns-clause-counts
+returns-clause-counts g c =
+    answers_counted g.W.World.known c.args.words.now (g.W.World.outside c.args.world.now) (ended c.answer.result (g.W.World.outside c.answer.new.world)) c.answer.ensures
+
+pub returns-clause-status : goal.returns-clause-status
+returns-clause-status g c =
+    answers_of_command g.W.World.known c.args.words.now (g.W.World.outside c.args.world.now) (ended c.answer.result (g.W.World.outside c.answer.new.world)) c.answer.ensures
+
+pub returns-clause-exact : goal.returns-clause-exact
+returns-clause-exact g c =
+    answers_exact g.W.World.known c.args.words.now (g.W.World.outside c.args.world.now) (ended c.answer.result (g.W.World.outside c.answer.new.world)) c.answer.ensures
+
+pub returns-clause-complete : goal.returns-clause-complete
+returns-clause-complete g c =
+    answers_complete g.W.World.known c.args.words.now (g.W.World.outside c.args.world.now) (ended c.answer.result (g.W.World.outside c.answer.new.world)) c.answer.ensures
+
+pub returns-clause-through : goal.returns-clause-through
+returns-clause-through g c =
+    answers_through g.W.World.known c.args.words.now (g.W.World.outside c.args.world.now) (ended c.answer.result (g.W.World.outside c.answer.new.world)) c.answer.ensures
+
+pub returns-clause-stands : goal.returns-clause-stands
+returns-clause-stands g c =
+    answers_stand g.W.World.known c.args.words.now (g.W.World.outside c.args.world.now) (ended c.answer.result (g.W.World.outside c.answer.new.world)) c.answer.ensures
+
+pub returns-clause-done : goal.returns-clause-done
+returns-clause-done g c =
+    answers_done g.W.World.known c.args.words.now (g.W.World.outside c.args.world.now) (ended c.answer.result (g.W.World.outside c.answer.new.world)) c.answer.ensures
+
+pub returns-clause-dealt : goal.returns-clause-dealt
+returns-clause-dealt g c =
+    answers_dealt g.W.World.known c.args.words.now (g.W.World.outside c.args.world.now) (ended c.answer.result (g.W.World.outside c.answer.new.world)) c.answer.ensures
+
+pub returns-clause-local : goal.returns-clause-local
+returns-clause-local g c =
+    answers_local g.W.World.known c.args.words.now (g.W.World.outside c.args.world.now) (ended c.answer.result (g.W.World.outside c.answer.new.world)) c.answer.ensures
 
 pub returns-clause-shown : goal.returns-clause-shown
 returns-clause-shown g c =
-    let words = c.args.words.now in
-    let before = g.W.World.outside c.args.world.now in
-    let after = g.W.World.outside c.answer.new.world in
-    answers_shown words before c.answer.result.status after c.answer.ensures (answers_bad_words words before c.answer.result.status after c.answer.ensures)
+    answers_shown g.W.World.known c.args.words.now (g.W.World.outside c.args.world.now) (ended c.answer.result (g.W.World.outside c.answer.new.world)) c.answer.ensures

@@ -1,0 +1,46 @@
+-- Columns that hide codes.
+use Rattle.std.proofs.Common.{◌≡◌, ◌≢◌, ◌+◌, ◌%◌, ◌<◌, ◌∙◌, ℕ, List, [], length, get_or, sym, ap, arith, ext_get_or}
+use Rattle.std.proofs.lemmas.List.{get_or-set_same, get_or-set_other}
+use Rattle.psi_spec.specs.Bits.{bit_of, xor}
+use Rattle.psi_spec.specs.Columns.{column_bytes, row_of}
+use Rattle.psi_spec.specs.Matrices.{Matrix, column_of, with_column}
+use Rattle.psi_spec.specs.ColumnSets.{ColumnSets, masked, masked_columns}
+use Rattle.psi_spec.proofs.Xor.{xor-assoc, xor-comm, length-xor, bit_of-xor}
+use Rattle.psi_spec.proofs.Packing.{bit_of-row_of}
+use Rattle.psi_spec.proofs.ColumnSets.{length-row_of_words, length-masked_columns, get_or-masked_columns}
+
+-- the order in which a column is made does not matter
+pub masked_by : (a0 a1 : List ℕ) (words : List (List ℕ)) (c : ℕ) → xor (xor (row_of words c) a0) a1 ≡ masked a0 a1 words c
+masked_by a0 a1 words c = xor-assoc (row_of words c) a0 a1 ∙ xor-comm (row_of words c) (xor a0 a1)
+
+pub bit_of-masked : (a0 a1 : List ℕ) (words : List (List ℕ)) (c j : ℕ) → length a0 ≡ column_bytes (length words) → length a1 ≡ column_bytes (length words)
+    → bit_of (masked a0 a1 words c) j ≡ (bit_of a0 j + bit_of a1 j + bit_of (get_or words j []) c) % 2
+bit_of-masked a0 a1 words c j l m =
+    let both : length (xor a0 a1) ≡ column_bytes (length words) = length-xor (column_bytes (length words)) a0 a1 l m in
+    let outer = bit_of-xor (xor a0 a1) (row_of words c) j (both ∙ sym (length-row_of_words words c)) in
+    let inner = bit_of-xor a0 a1 j (l ∙ sym m) in
+    let code = bit_of-row_of words c j in
+    omega arith
+
+-- ---- a column that is changed twice
+
+pub changed_twice : (old mid new : Matrix) (c : ℕ) (x y : List ℕ) → c < length old.columns → c < length mid.columns
+    → mid ≡ with_column old c (xor (column_of old c) x) → new ≡ with_column mid c (xor (column_of mid c) y) → column_of new c ≡ xor (xor (column_of old c) x) y
+changed_twice old mid new c x y l m first second =
+    ap (λ (a : Matrix). column_of a c) second
+    ∙ (get_or-set_same mid.columns c (xor (column_of mid c) y) [] m
+    ∙ ap (λ (column : List ℕ). xor column y) (ap (λ (a : Matrix). column_of a c) first ∙ get_or-set_same old.columns c (xor (column_of old c) x) [] l))
+
+-- the other columns stay
+pub kept_twice : (old mid new : Matrix) (c k : ℕ) (x y : List ℕ) → k ≢ c → mid ≡ with_column old c x → new ≡ with_column mid c y → column_of new k ≡ column_of old k
+kept_twice old mid new c k x y ne first second =
+    ap (λ (a : Matrix). column_of a k) second
+    ∙ (get_or-set_other mid.columns c k y [] ne
+    ∙ (ap (λ (a : Matrix). column_of a k) first ∙ get_or-set_other old.columns c k x [] ne))
+
+-- columns that are masked one by one
+pub all_masked : (words columns : List (List ℕ)) (sets : ColumnSets) → length columns ≡ 512 → length sets.zeros ≡ 512 → length sets.ones ≡ 512
+    → ((k : ℕ) → k < 512 → get_or columns k [] ≡ xor (xor (row_of words k) (get_or sets.zeros k [])) (get_or sets.ones k [])) → columns ≡ masked_columns words sets
+all_masked words columns sets count zeros ones each =
+    ext_get_or [] columns (masked_columns words sets) (count ∙ sym (length-masked_columns words sets (zeros ∙ sym ones) ∙ zeros))
+    (λ k l. each k (omega arith) ∙ (masked_by (get_or sets.zeros k []) (get_or sets.ones k []) words k ∙ sym (get_or-masked_columns words sets k (zeros ∙ sym ones) (omega arith))))

@@ -1,0 +1,82 @@
+-- Steps from what their functions answer.
+use Rattle.std.proofs.Common.{◌≡◌, ℕ, Bool, false, List, [], ◌∷◌, Option, None, Ok, Err, IsErrAnd, refl, sym, subst}
+use Rattle.std.specs.declared.result.Result.{Result}
+use Rattle.psi_base.specs.Outside.{Known, Outside}
+use Rattle.psi_top.specs.Tree.{Tree, reads, refuses, places, opens, talks, ends, Effect, says, puts, decides, End, stopped, end_of}
+use Rattle.psi_top.specs.Walk.{starved, hungry, given_up, refused, gave_up, all_done, IsVerdict, Does, Follows, Runs, Settles, Steps}
+use Rattle.psi_top.specs.declared.status.Outcome.{Outcome}
+use Rattle.psi_top.specs.declared.status.Status.{Status}
+use Rattle.psi_top.specs.declared.status.Status.TheVariants as status
+
+does_starve : (words : List (List ℕ)) (wire : Option (List ℕ)) (effects : List Effect) (before : Outside)
+    → Does words false wire effects before (stopped status.NoMemory before)
+unfolding Does
+does_starve words wire [] before = gave_up refl refl
+does_starve words wire (says text ∷ effects) before = starved refl refl
+does_starve words wire (puts word bytes ∷ effects) before = starved refl refl
+
+-- for want of memory a run may end at every tree
+pub starves : (known : Known) (words : List (List ℕ)) (tree : Tree) (before : Outside)
+    → Runs known words tree before (stopped status.NoMemory before)
+unfolding Follows
+starves known words (reads word limit next) before = starved refl refl
+starves known words (refuses verdict) before = given_up refl refl
+starves known words (places word set next) before = hungry refl refl
+starves known words (opens next) before = starved refl refl
+starves known words (talks d next) before = starved refl refl
+starves known words (ends wire effects) before = does_starve words wire effects before
+
+goes_on : {A : Type 0} (x : A) (next : A → Tree) (known : Known) (words : List (List ℕ)) (before : Outside) (end : End)
+    → Runs known words (next x) before end → Runs known words (decides (Ok x) next) before end
+unfolding decides
+goes_on x next known words before end later = later
+
+is_refused : {A : Type 0} (due : Result A Status) (why : Status) → due ≡ Err why → IsVerdict why
+    → (known : Known) (words : List (List ℕ)) (before : Outside) (next : A → Tree)
+    → Runs known words (decides due next) before (stopped why before)
+unfolding Follows decides
+is_refused due why e v known words before next =
+    subst (λ (r : Result _ Status). Runs known words (decides r next) before (stopped why before)) (sym e) (refused v refl)
+
+-- a value that was judged: the run goes on with it, or is refused
+pub settled : {A : Type 0} (due result : Result A Status) → Settles due result
+    → (known : Known) (words : List (List ℕ)) (before : Outside) → Steps known words (decides due) before result before
+settled due (Ok x) h known words before = λ next end later.
+    subst (λ (r : Result _ Status). Runs known words (decides r next) before end) (sym h)
+    (goes_on x next known words before end later)
+settled due (Err status.NoMemory) h known words before = λ next. starves known words (decides due next) before
+settled due (Err why) h known words before = is_refused due why h.0 h.1 known words before
+
+-- a file that was read and judged
+pub then_judged : {A : Type 0} (known : Known) (words : List (List ℕ)) (word limit : ℕ) (judge : List ℕ → Result A Status)
+    (before after : Outside) (bytes : List ℕ) (result : Result A Status)
+    → Steps known words (reads word limit) before (Ok bytes) after → Settles (judge bytes) result
+    → Steps known words (λ next. reads word limit (λ bytes. decides (judge bytes) next)) before result after
+then_judged known words word limit judge before after bytes (Ok x) read h = λ next end later.
+    read (λ bytes. decides (judge bytes) next) end (settled (judge bytes) (Ok x) h known words after next end later)
+then_judged known words word limit judge before after bytes (Err why) read h = λ next.
+    read (λ bytes. decides (judge bytes) next) (stopped why after) (settled (judge bytes) (Err why) h known words after next)
+
+-- a run of which all is done
+pub ends_done : (known : Known) (words : List (List ℕ)) (taken : Bool) (before : Outside)
+    → Follows known words taken (ends None []) before (stopped status.Done before)
+unfolding Follows Does
+ends_done known words taken before = all_done refl
+
+-- a run that was refused for want of memory
+pub starves_out : (known : Known) (words : List (List ℕ)) (tree : Tree) (before : Outside) (r : Result Outcome Status)
+    → IsErrAnd r (λ why. why ≡ status.NoMemory) → Runs known words tree before (end_of r before)
+starves_out known words tree before (Ok outcome) h = absurd h
+starves_out known words tree before (Err why) h =
+    subst (λ (s : Status). Runs known words tree before (stopped s before)) (sym h) (starves known words tree before)
+
+pub decides_ok : {A : Type 0} (x : A) (next : A → Tree) → decides (Ok x) next ≡ next x
+unfolding decides
+decides_ok x next = refl
+
+pub settles_out : {A : Type 0} (known : Known) (words : List (List ℕ)) (due : Result A Status) (next : A → Tree)
+    (before : Outside) (why : Status) → Settles due (Err why) → Runs known words (decides due next) before (stopped why before)
+settles_out known words due next before why h = settled due (Err why) h known words before next
+
+-- what every exit of a command may cite
+pub ruleset walk = (starves, starves_out, ends_done, decides_ok, settles_out)

@@ -1,0 +1,27 @@
+-- The commands as trees of steps, and what a run may answer.
+use Rattle.std.specs.Prelude.{◌≡◌, ℕ, List, Option, Some, None}
+use Rattle.psi_spec.specs.Words.{bad_word}
+use Rattle.psi_base.specs.Outside.{Known, Outside}
+use Rattle.psi_top.specs.Deal.{deal_tree}
+use Rattle.psi_top.specs.Form.{command_of}
+use Rattle.psi_top.specs.Local.{local_tree}
+use Rattle.psi_top.specs.Tree.{Tree, End, stopped}
+use Rattle.psi_top.specs.Walk.{Runs}
+use Rattle.psi_top.specs.declared.form.Command.{Command}
+use Rattle.psi_top.specs.declared.form.Command.TheVariants.{Deal, Local}
+use Rattle.psi_top.specs.declared.status.Status.TheVariants.{BadWords}
+
+-- the steps of a command with these words
+abbrev pub tree_of : Command → List (List ℕ) → Tree
+tree_of Deal = deal_tree
+tree_of Local = local_tree
+
+-- what a run may answer, by the bad place of its words and the command that they name
+abbrev pub AnswersBy : Known → List (List ℕ) → Outside → End → Option ℕ → Option Command → Type 0
+AnswersBy known words before end (Some at) command = end ≡ stopped (BadWords at) before
+AnswersBy known words before end None None = ⊥
+AnswersBy known words before end None (Some command) = Runs known words (tree_of command words) before end
+
+-- what a run may answer
+abbrev pub Answers : Known → List (List ℕ) → Outside → End → Type 0
+Answers known words before end = AnswersBy known words before end (bad_word words) (command_of words)

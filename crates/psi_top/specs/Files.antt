@@ -1,0 +1,20 @@
+-- The files that commands read.
+use Rattle.std.specs.Prelude.{ℕ, List, Option, None, Some, Result, Ok, Err}
+use Rattle.psi_spec.specs.Items.{BadLine, items_of, first_bad}
+use Rattle.psi_spec.specs.Limits.{file_limit}
+use Rattle.psi_items.specs.Reading.{bad_items_of}
+use Rattle.psi_top.specs.Tree.{Tree, reads, decides}
+use Rattle.psi_top.specs.declared.status.Status.{Status}
+use Rattle.psi_top.specs.declared.status.Status.TheVariants.{BadItems}
+
+-- the items of the file of a word, or the fault of its first bad line
+abbrev pub judged_items : ℕ → List ℕ → Option BadLine → Result (List (List ℕ)) Status
+judged_items word bytes None = Ok (items_of bytes)
+judged_items word bytes (Some bad) = Err (BadItems word (bad_items_of bad))
+
+unfoldable pub items_in : ℕ → List ℕ → Result (List (List ℕ)) Status
+items_in word bytes = judged_items word bytes (first_bad bytes)
+
+-- the steps that read the item file of a word and judge it
+unfoldable pub reads_items : ℕ → (List (List ℕ) → Tree) → Tree
+reads_items word next = reads word file_limit (λ bytes. decides (items_in word bytes) next)

@@ -1,0 +1,62 @@
+-- A command as a tree of steps.
+use Rattle.std.specs.Prelude.{ℕ, List, ◌∷◌, [], Option, None, Result, Ok, Err}
+use Rattle.psi_spec.specs.Placement.{Slot}
+use Rattle.psi_base.specs.Outside.{Outside}
+use Rattle.psi_top.specs.Dialogue.{Dialogue}
+use Rattle.psi_top.specs.declared.status.Status.{Status}
+use Rattle.psi_top.specs.declared.status.Outcome.{Outcome}
+
+-- what is done once nothing is refused any more: a text is printed, or the file of a word is written
+pub data Effect : Type 0 where
+  says : List ℕ → Effect
+  puts : ℕ → List ℕ → Effect
+
+-- a set that is to be placed: the rows of its stash, its bins, and the candidates of each of its items
+pub record Placing : Type 0 where
+  pub stash : ℕ
+  pub bins : ℕ
+  pub candidates : List (List ℕ)
+
+-- the steps of a command, each with what comes after it
+pub data Tree : Type 0 where
+  -- reads the file of a word, of at most so many bytes
+  reads : ℕ → ℕ → (List ℕ → Tree) → Tree
+  -- refuses with a status
+  refuses : Status → Tree
+  -- places the set of a word: which slots it gets is open
+  places : ℕ → Placing → (List Slot → Tree) → Tree
+  -- opens the link
+  opens : Tree → Tree
+  -- runs this end of a session over the link: all memory is taken before, so that none is wanting after it
+  talks : Dialogue → (List ℕ → Tree) → Tree
+  -- does these in order, and is done, with the digest of the session that was run, if one was
+  ends : Option (List ℕ) → List Effect → Tree
+
+-- goes on with a value that was judged, or refuses
+unfoldable pub decides : {A : Type 0} → Result A Status → (A → Tree) → Tree
+decides (Ok x) next = next x
+decides (Err status) next = refuses status
+
+-- how a run ended: its status, the placements and the digest of a session that its outcome carries, and what it left
+pub record End : Type 0 where
+  pub status : Status
+  pub placed : List (List Slot)
+  pub wire : Option (List ℕ)
+  pub left : Outside
+
+-- a run that ended here, with no placement from here on, and no digest
+abbrev pub stopped : Status → Outside → End
+stopped status after = record { status = status; placed = []; wire = None; left = after }
+
+-- the same end with one placement more
+abbrev pub with_slots : List Slot → End → End
+with_slots slots end = record end { placed = slots ∷ end.placed }
+
+-- how a run with this outcome ended
+abbrev pub ended : Outcome → Outside → End
+ended outcome after = stopped outcome.status after
+
+-- how a run ended that has this outcome, or was refused before it had one
+abbrev pub end_of : Result Outcome Status → Outside → End
+end_of (Ok outcome) after = ended outcome after
+end_of (Err why) after = stopped why after

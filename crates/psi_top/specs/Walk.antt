@@ -1,0 +1,128 @@
+-- How a run follows a tree of steps.
+use Rattle.std.specs.Prelude.{◌≡◌, ℕ, Bool, true, false, List, ◌∷◌, [], Option, Result, Ok, Err}
+use Rattle.psi_spec.specs.CrowdedLists.{IsCrowded, touched_by}
+use Rattle.psi_spec.specs.Placement.{Slot, IsPlacement}
+use Rattle.psi_spec.specs.Words.{word_at}
+use Rattle.psi_base.specs.Outside.{Known, Outside, Reads, Writes, PrintsAll, Opens}
+use Rattle.psi_base.specs.declared.faults.Fault.{Fault}
+use Rattle.psi_base.specs.declared.faults.Fault.TheVariants as fault
+use Rattle.psi_base.specs.declared.faults.ReadFault.{ReadFault}
+use Rattle.psi_base.specs.declared.faults.ReadFault.TheVariants as read
+use Rattle.psi_frames.specs.declared.turns.EndFault.{EndFault}
+use Rattle.psi_frames.specs.declared.turns.EndFault.TheVariants as peer
+use Rattle.psi_top.specs.Dialogue.{Dialogue, Talks}
+use Rattle.psi_top.specs.Tree.{Effect, says, puts, Placing, Tree, reads, refuses, places, opens, talks, ends, End, stopped, with_slots}
+use Rattle.psi_top.specs.declared.status.Status.{Status}
+use Rattle.psi_top.specs.declared.status.Status.TheVariants as status
+
+-- the status of each fault of the outside
+abbrev pub read_status : ℕ → ReadFault → Status
+read_status word read.Failed = status.FileFault word
+read_status word (read.TooLong taken) = status.TooLong word taken
+read_status word read.NoMemory = status.NoMemory
+
+abbrev pub write_status : ℕ → Fault → Status
+write_status word fault.Failed = status.FileFault word
+write_status word fault.NoMemory = status.NoMemory
+
+abbrev pub print_status : Fault → Status
+print_status fault.Failed = status.PrintFault
+print_status fault.NoMemory = status.NoMemory
+
+abbrev pub open_status : Fault → Status
+open_status fault.Failed = status.LinkFault
+open_status fault.NoMemory = status.NoMemory
+
+abbrev pub talk_status : EndFault → Status
+talk_status (peer.Bad frame) = status.BadFrame frame
+talk_status (peer.PeerEnded offset) = status.PeerEnded offset
+talk_status peer.Link = status.LinkFault
+talk_status peer.NoMemory = status.NoMemory
+
+-- the statuses by which contents of files are refused
+abbrev pub IsVerdict : Status → Type 0
+IsVerdict (status.BadItems word why) = Unit {0}
+IsVerdict (status.LargeSet count) = Unit {0}
+IsVerdict _ = ⊥
+
+-- a run at a call of the outside: memory was wanting before it, unless all was taken; the call was refused; or it was
+-- answered, and the run went on
+pub data AtCall {A E : Type 0} (taken : Bool) (Calls : Result A E → Outside → Type 0) (status_of : E → Status)
+    (before : Outside) (end : End) (Rest : A → Outside → Type 0) : Type 0 where
+  starved : taken ≡ false → end ≡ stopped status.NoMemory before → AtCall taken Calls status_of before end Rest
+  cut : (why : E) (after : Outside) → Calls (Err why) after → end ≡ stopped (status_of why) after
+      → AtCall taken Calls status_of before end Rest
+  passed : (x : A) (after : Outside) → Calls (Ok x) after → Rest x after → AtCall taken Calls status_of before end Rest
+
+-- a run at a set that is to be placed: memory was wanting, a crowded list excludes a placement, or it got slots
+pub data AtPlace (taken : Bool) (word : ℕ) (set : Placing) (before : Outside) (end : End)
+    (Rest : List Slot → End → Type 0) : Type 0 where
+  hungry : taken ≡ false → end ≡ stopped status.NoMemory before → AtPlace taken word set before end Rest
+  crowded : (items : List ℕ) → IsCrowded set.stash set.candidates items
+      → end ≡ stopped (status.NoPlacement word items (touched_by set.candidates items)) before
+      → AtPlace taken word set before end Rest
+  placed : (slots : List Slot) (later : End) → IsPlacement set.stash set.bins set.candidates slots
+      → end ≡ with_slots slots later → Rest slots later → AtPlace taken word set before end Rest
+
+-- a run that is refused here with this status, unless memory was wanting
+pub data AtRefusal (taken : Bool) (verdict : Status) (before : Outside) (end : End) : Type 0 where
+  given_up : taken ≡ false → end ≡ stopped status.NoMemory before → AtRefusal taken verdict before end
+  refused : IsVerdict verdict → end ≡ stopped verdict before → AtRefusal taken verdict before end
+
+-- a run that has done all, unless memory was wanting
+pub data AtEnd (taken : Bool) (wire : Option (List ℕ)) (before : Outside) (end : End) : Type 0 where
+  gave_up : taken ≡ false → end ≡ stopped status.NoMemory before → AtEnd taken wire before end
+  all_done : end ≡ record { status = status.Done; placed = []; wire = wire; left = before }
+      → AtEnd taken wire before end
+
+-- a run that is to do these in order; where all memory was taken, none is wanting
+unfoldable pub Does : List (List ℕ) → Bool → Option (List ℕ) → List Effect → Outside → End → Type 0
+Does words taken wire [] before end = AtEnd taken wire before end
+Does words taken wire (says text ∷ rest) before end =
+    AtCall taken (PrintsAll before text) print_status before end (λ _ after. Does words taken wire rest after end)
+Does words taken wire (puts word bytes ∷ rest) before end =
+    AtCall taken (Writes before (word_at words word) bytes) (write_status word) before end
+    (λ _ after. Does words taken wire rest after end)
+
+-- a run of a command with these words, from this outside on; once a session was run, all memory is taken
+unfoldable pub Follows : Known → List (List ℕ) → Bool → Tree → Outside → End → Type 0
+Follows known words taken (reads word limit next) before end =
+    AtCall taken (Reads known before (word_at words word) limit) (read_status word) before end
+    (λ bytes after. Follows known words taken (next bytes) after end)
+Follows known words taken (refuses verdict) before end = AtRefusal taken verdict before end
+Follows known words taken (places word set next) before end =
+    AtPlace taken word set before end (λ slots later. Follows known words taken (next slots) before later)
+Follows known words taken (opens next) before end =
+    AtCall taken (Opens before) open_status before end (λ _ after. Follows known words taken next after end)
+Follows known words taken (talks dialogue next) before end =
+    AtCall taken (Talks known dialogue before) talk_status before end
+    (λ bytes after. Follows known words true (next bytes) after end)
+Follows known words taken (ends wire effects) before end = Does words taken wire effects before end
+
+-- the same of a run that has taken no memory for good
+abbrev pub Runs : Known → List (List ℕ) → Tree → Outside → End → Type 0
+Runs known words tree before end = Follows known words false tree before end
+
+-- what a step may answer and leave that has a value for what comes next: the run goes on from what it left, or ends
+-- there
+abbrev pub Steps : {A : Type 0} → Known → List (List ℕ) → ((A → Tree) → Tree) → Outside → Result A Status → Outside
+    → Type 0
+Steps known words step before (Ok x) after =
+    (next : _ → Tree) (end : End) → Runs known words (next x) after end → Runs known words (step next) before end
+Steps known words step before (Err why) after =
+    (next : _ → Tree) → Runs known words (step next) before (stopped why after)
+
+-- what a step may answer and leave that prints a text or writes a file
+abbrev pub Makes : Known → List (List ℕ) → Bool → Effect → Outside → Result (Unit {0}) Status → Outside → Type 0
+Makes known words taken effect before (Ok _) after =
+    (wire : Option (List ℕ)) (rest : List Effect) (end : End) → Follows known words taken (ends wire rest) after end
+    → Follows known words taken (ends wire (effect ∷ rest)) before end
+Makes known words taken effect before (Err why) after =
+    (wire : Option (List ℕ)) (rest : List Effect)
+    → Follows known words taken (ends wire (effect ∷ rest)) before (stopped why after)
+
+-- what a function that judges a value may answer: what is due, or that memory was wanting
+abbrev pub Settles : {A : Type 0} → Result A Status → Result A Status → Type 0
+Settles due (Ok x) = due ≡ Ok x
+Settles due (Err status.NoMemory) = Unit {0}
+Settles due (Err why) = (due ≡ Err why) × IsVerdict why
