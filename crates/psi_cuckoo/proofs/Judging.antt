@@ -1,5 +1,5 @@
 -- Slots that are judged.
-use Rattle.std.proofs.Common.{◌≡◌, ◌≢◌, ◌+◌, ◌-◌, ◌<◌, ◌≤◌, ◌==◌, ◌&&◌, ℕ, zero, suc, Bool, true, false, cond, List, [], ◌∷◌, length, map, take, get_or, Some, None, nat_eq, nat_lt, nat_le, is_some, slice_get, refl, sym, ap, ◌∙◌, subst, arith, ⊎_elim, inl, inr, eq-eqb}
+use Rattle.std.proofs.Common.{◌≡◌, ◌≢◌, ◌+◌, ◌-◌, ◌<◌, ◌≤◌, ◌==◌, ◌&&◌, ℕ, zero, suc, Bool, true, false, cond, List, [], ◌∷◌, length, map, take, get_or, Some, None, nat_eq, nat_lt, nat_le, is_some, not, slice_get, refl, sym, ap, ◌∙◌, subst, arith, ⊎_elim, inl, inr, eq-eqb}
 use Rattle.std.specs.List.{AllZip, filter_map, list_any, range_with_len}
 use Rattle.std.specs.Option.{option_map_or}
 use Rattle.std.specs.declared.option.Option.{Option}
@@ -34,7 +34,7 @@ may_have_at stash bins (x ∷ xs) (s ∷ ss) (suc i) each l = may_have_at stash 
 
 -- ---- the tests of a slot
 
-none_parts : (a b c : Bool) (x y z : BadSlots) → cond a (Some x) (cond b (cond c (Some y) None) (Some z)) ≡ None → (a ≡ false) × (b ≡ true) × (c ≡ false)
+none_parts : (a b c : Bool) (x y z : BadSlots) → cond a (Some x) (cond (not b) (Some z) (cond c (Some y) None)) ≡ None → (a ≡ false) × (b ≡ true) × (c ≡ false)
 none_parts true b c x y z h = cc
 none_parts false true true x y z h = cc
 none_parts false true false x y z h = (refl, refl, refl)
