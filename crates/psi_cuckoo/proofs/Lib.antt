@@ -1,0 +1,5 @@
+pub mod Rows
+pub mod Paths
+pub mod Reached
+pub mod Placed
+pub mod Judging
