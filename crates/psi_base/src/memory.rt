@@ -29,7 +29,8 @@ pub struct MemWorld {
 }
 
 impl MemWorld {
-    ghost use Rattle.psi_base.specs.State.{state_of, empty_state, state_with_file, state_with_incoming, state_with_failure, state_with_most};
+    ghost use Rattle.psi_base.specs.State.{state_of, empty_state, state_with_file};
+    ghost use Rattle.psi_base.specs.State.{state_with_incoming, state_with_failure, state_with_most};
 
     /// No files, no bytes, a link that is not ready, and no call is listed to fail.
     pub fn new(alloc: Global) -> MemWorld
@@ -125,8 +126,10 @@ impl MemWorld {
 }
 
 impl World for MemWorld {
-    ghost use Rattle.psi_base.specs.Outside.{Outside, Opens, Prints, Reads, Receives, Sends, Writes, as_list, nothing_known};
-    ghost use Rattle.psi_base.specs.State.{state_of, outside_of, ReadsExactly, WritesExactly, PrintsExactly, OpensExactly, ReceivesExactly, SendsExactly};
+    ghost use Rattle.psi_base.specs.Outside.{Outside, Opens, Prints, Reads, Receives};
+    ghost use Rattle.psi_base.specs.Outside.{Sends, Writes, as_list, nothing_known};
+    ghost use Rattle.psi_base.specs.State.{state_of, outside_of, ReadsExactly, WritesExactly};
+    ghost use Rattle.psi_base.specs.State.{PrintsExactly, OpensExactly, ReceivesExactly, SendsExactly};
 
     ghost outside = { λ world. outside_of (state_of world) };
 

@@ -86,7 +86,8 @@ impl QuietMem {
 
 impl World for QuietMem {
     ghost use Rattle.psi_base.specs.Outside.{Opens, Prints, Reads, Receives, Sends, Writes, as_list, nothing_known};
-    ghost use Rattle.psi_base.specs.State.{ReadsExactly, WritesExactly, PrintsExactly, OpensExactly, ReceivesExactly, SendsExactly};
+    ghost use Rattle.psi_base.specs.State.{ReadsExactly, WritesExactly, PrintsExactly};
+    ghost use Rattle.psi_base.specs.State.{OpensExactly, ReceivesExactly, SendsExactly};
     ghost use Rattle.psi_base.specs.Quiet.{quiet_of};
     ghost use Rattle.psi_base.specs.Steady.{steady_outside_of};
 

@@ -16,7 +16,8 @@ refusal_of line is_too_many = Many line
 abbrev pub bad_items_of : BadLine → BadItems
 bad_items_of bad = refusal_of bad.line bad.fault
 
--- what the reading of a file answers: its items where no line has a fault, else the first fault with its line; want of memory may come in place of either
+-- what the reading of a file answers: its items where no line has a fault, else the first fault with its line; want of
+-- memory may come in place of either
 abbrev pub ReadsItems : List ℕ → Result (List (List ℕ)) BadItems → Type 0
 ReadsItems bytes (Ok items) = (first_bad bytes ≡ None) × (items ≡ items_of bytes)
 ReadsItems bytes (Err NoMemory) = ⊤

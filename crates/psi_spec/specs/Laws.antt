@@ -93,7 +93,7 @@ DealsShowCommon =
     → IsPlacementOf stash (dealt_receiver seed session tag_length stash).key (bins_for (length xs)) xs slots
     → ShowsCommon (setup_of_dealt seed session tag_length stash xs slots) ys
 
--- the same, of as many items as the stash has rows, one after another in the stash
+-- the same, of no more items than the stash has rows, one after another in the stash
 abbrev pub StashShowsCommon : Type 0
 StashShowsCommon =
     (stash : ℕ) (seed : List ℕ) (session tag_length : ℕ) (xs ys : List (List ℕ)) → length xs ≤ stash
