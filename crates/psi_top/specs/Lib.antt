@@ -1,6 +1,5 @@
 pub mod Commands
 pub mod Comparing
-pub mod Dealing
 pub mod Dialogue
 pub mod Due
 pub mod Files
@@ -8,6 +7,7 @@ pub mod Form
 pub mod Local
 pub mod LocalPromises
 pub mod Promises
+pub mod Session
 pub mod Texts
 pub mod Tree
 pub mod Walk

@@ -2,10 +2,10 @@
 #![tactic(auto)]
 
 mod comparing;
-mod dealing;
 mod entry;
 mod form;
 mod local;
+mod session;
 mod status;
 mod steps;
 mod texts;
