@@ -5,11 +5,12 @@ use Rattle.std.proofs.Math.ListN.{set}
 use Rattle.std.proofs.Math.Bool.{or_assoc}
 use Rattle.std.proofs.lemmas.List.{append-nil, length-map, length-take-le, take_more, take-append-le, take_all}
 use Rattle.std.proofs.lemmas.List.Folds.{list_any-append}
+use Rattle.psi_spec.specs.Deals.{ReceiverDeal, SenderDeal}
 use Rattle.psi_spec.specs.Formulas.{code, item_digest}
 use Rattle.psi_spec.specs.Texts.{lines_text}
 use Rattle.psi_spec.proofs.Printing.{flagged}
 use Rattle.psi_top.specs.Comparing.{meets_code, after_code, after_items, comparison_at, comparisons_from, met_items}
-use Rattle.psi_top.specs.declared.dealing.Dealt.{Dealt}
+use Rattle.psi_top.specs.declared.session.SessionRows.{SessionRows}
 use Rattle.psi_top.specs.declared.comparing.Comparison.{Comparison}
 
 -- ---- the element at a place
@@ -31,6 +32,12 @@ stands_at {A = A} (y ∷ ys) (suc i) x e =
       within = let l = later.within in omega arith;
       more = ap (λ (n : ℕ). take n (y ∷ ys)) count ∙ ap (λ (rest : List A). y ∷ rest) later.more;
     }
+
+-- it is the element there
+pub stands_same : {A : Type 0} (xs : List A) (i : ℕ) (x : A) → Some x ≡ slice_get xs i → x ≡ get_or xs i x
+stands_same [] i x e = refl
+stands_same (y ∷ ys) zero x e = cc e
+stands_same (y ∷ ys) (suc i) x e = stands_same ys i x e
 
 pub stands_there : {A : Type 0} (xs : List A) (i : ℕ) (x : A) → i < length xs → x ≡ get_or xs i x → StandsAt xs i x
 stands_there {A = A} xs i x within e = record { within = within; more = take_more xs i x within ∙ ap (λ (y : A). take i xs ++ y ∷ []) (sym e) }
@@ -68,28 +75,32 @@ changed_all {A = A} f (x ∷ xs) (suc i) l = ap (λ (rest : List A). f x ∷ res
 
 -- ---- the receiver's comparisons
 
-comparisons_from-push : (dealt : Dealt) (row : ℕ) (xs : List (List ℕ)) (x : List ℕ) → comparisons_from dealt row (xs ++ x ∷ []) ≡ comparisons_from dealt row xs ++ comparison_at dealt (row + length xs) x ∷ []
-comparisons_from-push dealt row [] x = let same : row ≡ row + 0 = omega arith in ap (λ (r : ℕ). comparison_at dealt r x ∷ []) same
-comparisons_from-push dealt row (y ∷ ys) x =
-    let same : row + 1 + length ys ≡ row + length (y ∷ ys) = omega arith in
-    ap (λ (rest : List Comparison). comparison_at dealt row y ∷ rest) (comparisons_from-push dealt (row + 1) ys x ∙ ap (λ (r : ℕ). comparisons_from dealt (row + 1) ys ++ comparison_at dealt r x ∷ []) same)
-
 -- one more comparison
-pub one_comparison : (dealt : Dealt) (row : ℕ) (xs : List (List ℕ)) (i : ℕ) (x : List ℕ) → StandsAt xs i x → comparisons_from dealt row (take (i + 1) xs) ≡ comparisons_from dealt row (take i xs) ++ comparison_at dealt (row + i) x ∷ []
-one_comparison dealt row xs i x at =
-    let long : length (take i xs) ≡ i = let l = at.within in length-take-le i xs (omega arith) in
-    ap (comparisons_from dealt row) at.more ∙ comparisons_from-push dealt row (take i xs) x
-    ∙ ap (λ (n : ℕ). comparisons_from dealt row (take i xs) ++ comparison_at dealt (row + n) x ∷ []) long
+one_comparison : (deal : ReceiverDeal) (rows : SessionRows) (row count : ℕ) → comparisons_from deal rows row (count + 1) ≡ comparisons_from deal rows row count ++ comparison_at deal rows (row + count) ∷ []
+one_comparison deal rows row zero = let same : row ≡ row + 0 = omega arith in ap (λ (r : ℕ). comparison_at deal rows r ∷ []) same
+one_comparison deal rows row (suc count) =
+    let more : suc count + 1 ≡ suc (count + 1) = omega arith in
+    let same : row + 1 + count ≡ row + suc count = omega arith in
+    ap (comparisons_from deal rows row) more
+    ∙ ap (λ (rest : List Comparison). comparison_at deal rows row ∷ rest)
+    (one_comparison deal rows (row + 1) count ∙ ap (λ (r : ℕ). comparisons_from deal rows (row + 1) count ++ comparison_at deal rows r ∷ []) same)
 
-pub length-comparisons_from : (dealt : Dealt) (row : ℕ) (xs : List (List ℕ)) → length (comparisons_from dealt row xs) ≡ length xs
-length-comparisons_from dealt row [] = refl
-length-comparisons_from dealt row (x ∷ xs) = ap suc (length-comparisons_from dealt (row + 1) xs)
+pub one_made : (deal : ReceiverDeal) (rows : SessionRows) (row count : ℕ) (before after : List Comparison) (one : Comparison) → before ≡ comparisons_from deal rows row count → one ≡ comparison_at deal rows (row + count) → after ≡ before ++ one ∷ [] → after ≡ comparisons_from deal rows row (count + 1)
+one_made deal rows row count before after one made of_row pushed =
+    pushed
+    ∙ (ap (λ (front : List Comparison). front ++ one ∷ []) made
+    ∙ (ap (λ (last : Comparison). comparisons_from deal rows row count ++ last ∷ []) of_row
+    ∙ sym (one_comparison deal rows row count)))
+
+pub length-comparisons_from : (deal : ReceiverDeal) (rows : SessionRows) (row count : ℕ) → length (comparisons_from deal rows row count) ≡ count
+length-comparisons_from deal rows row zero = refl
+length-comparisons_from deal rows row (suc count) = ap suc (length-comparisons_from deal rows (row + 1) count)
 
 -- ---- the sender's items
 
-after_push : (dealt : Dealt) (ys : List (List ℕ)) (y : List ℕ) (c : Comparison) → after_code dealt (code dealt.key 0 (item_digest y)) (after_items dealt ys c) ≡ after_items dealt (ys ++ y ∷ []) c
-after_push dealt ys y c =
-    let test : List ℕ → Bool = λ y. meets_code dealt c (code dealt.key 0 (item_digest y)) in
+after_push : (deal : SenderDeal) (ys : List (List ℕ)) (y : List ℕ) (c : Comparison) → after_code deal (code deal.key 0 (item_digest y)) (after_items deal ys c) ≡ after_items deal (ys ++ y ∷ []) c
+after_push deal ys y c =
+    let test : List ℕ → Bool = λ y. meets_code deal c (code deal.key 0 (item_digest y)) in
     ap (λ (met : Bool). record c { met = met }) (
     or_assoc c.met (list_any test ys) (test y)
     ∙ ap (λ (b : Bool). c.met || b) (ap (λ (b : Bool). list_any test ys || b) (sym (or_false (test y))) ∙ sym (list_any-append test ys (y ∷ [])))
@@ -99,19 +110,19 @@ after_push dealt ys y c =
     or_false true = refl
     or_false false = refl
 
-map_after : (dealt : Dealt) (ys : List (List ℕ)) (y : List ℕ) (cs : List Comparison) → map (after_code dealt (code dealt.key 0 (item_digest y))) (map (after_items dealt ys) cs) ≡ map (after_items dealt (ys ++ y ∷ [])) cs
-map_after dealt ys y [] = refl
-map_after dealt ys y (c ∷ cs) = let t = after_push dealt ys y c in let ts = map_after dealt ys y cs in cc
+map_after : (deal : SenderDeal) (ys : List (List ℕ)) (y : List ℕ) (cs : List Comparison) → map (after_code deal (code deal.key 0 (item_digest y))) (map (after_items deal ys) cs) ≡ map (after_items deal (ys ++ y ∷ [])) cs
+map_after deal ys y [] = refl
+map_after deal ys y (c ∷ cs) = let t = after_push deal ys y c in let ts = map_after deal ys y cs in cc
 
 -- one more item of the sender
-pub one_item : (dealt : Dealt) (ys : List (List ℕ)) (i : ℕ) (y : List ℕ) (cs before after : List Comparison) → StandsAt ys i y → before ≡ map (after_items dealt (take i ys)) cs → after ≡ map (after_code dealt (code dealt.key 0 (item_digest y))) before → after ≡ map (after_items dealt (take (i + 1) ys)) cs
-one_item dealt ys i y cs before after at e f =
-    f ∙ ap (map (after_code dealt (code dealt.key 0 (item_digest y)))) e ∙ map_after dealt (take i ys) y cs ∙ ap (λ (l : List (List ℕ)). map (after_items dealt l) cs) (sym at.more)
+pub one_item : (deal : SenderDeal) (ys : List (List ℕ)) (i : ℕ) (y : List ℕ) (cs before after : List Comparison) → StandsAt ys i y → before ≡ map (after_items deal (take i ys)) cs → after ≡ map (after_code deal (code deal.key 0 (item_digest y))) before → after ≡ map (after_items deal (take (i + 1) ys)) cs
+one_item deal ys i y cs before after at e f =
+    f ∙ ap (map (after_code deal (code deal.key 0 (item_digest y)))) e ∙ map_after deal (take i ys) y cs ∙ ap (λ (l : List (List ℕ)). map (after_items deal l) cs) (sym at.more)
 
 -- before any item of the sender nothing changed
-pub after_none : (dealt : Dealt) (cs : List Comparison) → cs ≡ map (after_items dealt []) cs
-after_none dealt [] = refl
-after_none dealt (c ∷ cs) = let t : c ≡ after_items dealt [] c = ap (λ (met : Bool). record c { met = met }) (met_again c.met) in let ts = after_none dealt cs in cc
+pub after_none : (deal : SenderDeal) (cs : List Comparison) → cs ≡ map (after_items deal []) cs
+after_none deal [] = refl
+after_none deal (c ∷ cs) = let t : c ≡ after_items deal [] c = ap (λ (met : Bool). record c { met = met }) (met_again c.met) in let ts = after_none deal cs in cc
   where
     met_again : (b : Bool) → b ≡ (b || false)
     met_again true = refl
@@ -161,9 +172,9 @@ pub written_unmet : (text so_far item full : List ℕ) (met : Bool) → text ≡
 written_unmet text so_far item full met e false_now h = e ∙ sym (append-nil so_far) ∙ ap (λ (b : Bool). so_far ++ line_if b item) (sym false_now) ∙ sym h
 
 -- the comparisons after a loan of them to the loop over the sender's items
-pub after_loan : (dealt : Dealt) (row : ℕ) (xs ys : List (List ℕ)) (len : ℕ) (made lent new now : List Comparison) → lent ≡ made → length lent ≡ len → made ≡ comparisons_from dealt row xs
-    → new ≡ map (after_items dealt ys) lent → now ≡ take len (new ++ drop (length new) made) → now ≡ map (after_items dealt ys) (comparisons_from dealt row xs)
-after_loan dealt row xs ys len made lent new now same long made_is changed e =
-    let count : length new ≡ len = ap length changed ∙ length-map lent (after_items dealt ys) ∙ long in
+pub after_loan : (deal : SenderDeal) (ys : List (List ℕ)) (len : ℕ) (made lent new now : List Comparison) → lent ≡ made → length lent ≡ len
+    → new ≡ map (after_items deal ys) lent → now ≡ take len (new ++ drop (length new) made) → now ≡ map (after_items deal ys) made
+after_loan deal ys len made lent new now same long changed e =
+    let count : length new ≡ len = ap length changed ∙ length-map lent (after_items deal ys) ∙ long in
     let front : take len (new ++ drop (length new) made) ≡ new = take-append-le len new (drop (length new) made) (omega arith) ∙ take_all len new (omega arith) in
-    e ∙ front ∙ changed ∙ ap (map (after_items dealt ys)) (same ∙ made_is)
+    e ∙ front ∙ changed ∙ ap (map (after_items deal ys)) same

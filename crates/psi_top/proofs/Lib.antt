@@ -1,4 +1,5 @@
 pub mod Answered
+pub mod CodeBytes
 pub mod Compared
 pub mod Counted
 pub mod DealLaws
@@ -9,8 +10,8 @@ pub mod Left
 pub mod LocalLaws
 pub mod LocalWords
 pub mod NamedWords
+pub mod Opened
 pub mod Placed
-pub mod Rows
 pub mod Shown
 pub mod Standing
 pub mod Walked

@@ -1,14 +1,9 @@
 -- What words without a bad place say.
-use Rattle.std.proofs.Common.{◌≡◌, ◌+◌, ◌&&◌, nat_lt, ℕ, Bool, true, false, List, [], ◌∷◌, Option, Some, None, unwrap_or, if◌then◌else◌, codes, length, ◌≤◌, Ok, Err, IfOk, ap, ◌∙◌, arith, refl}
-use Rattle.std.specs.declared.result.Result.{Result}
-use Rattle.std.specs.List.{slice_get}
+use Rattle.std.proofs.Common.{◌≡◌, ◌+◌, ◌&&◌, nat_lt, ℕ, Bool, true, false, List, [], ◌∷◌, Some, None, if◌then◌else◌, codes, length, refl}
 use Rattle.std.specs.Option.{option_map_or}
 use Rattle.std.specs.Str.{bytes_eq}
 use Rattle.psi_spec.specs.Words.{Form, alone, bad_from, bad_word, word_at, local_forms, is_name, is_seed, is_session, is_tag_length}
-use Rattle.psi_spec.proofs.Dealing.{length-deal_bytes}
-use Rattle.psi_top.specs.Comparing.{IsDealt, IsReady}
 use Rattle.psi_top.specs.Form.{command_of}
-use Rattle.psi_top.specs.declared.dealing.Dealt.{Dealt}
 use Rattle.psi_top.specs.declared.form.Command.TheVariants.{Local}
 use Rattle.psi_top.proofs.NamedWords.{forms_fit}
 use Rattle.psi_top.proofs.WordValues.{both_true}
@@ -43,12 +38,3 @@ local_words words fit named =
     let fourth = bad_from-none session (tag_length ∷ []) [] words 4 third.1 in
     let fifth = bad_from-none tag_length [] [] words 5 fourth.1 in
     record { seed = third.0; session = fourth.0; tag_length = fifth.0 }
-
--- a deal of such a tag length is ready
-pub ready_of : {E : Type 0} (seed : List ℕ) (session tag_length : ℕ) (r : Result Dealt E) → 1 ≤ tag_length → tag_length ≤ 16 → IfOk r (IsDealt seed session tag_length) → IfOk r IsReady
-ready_of seed session tag_length (Ok dealt) least most made = record {
-  least = let e = made.tag_length in omega arith;
-  most = let e = made.tag_length in omega arith;
-  bytes = ap length made.bytes ∙ length-deal_bytes seed;
-}
-ready_of seed session tag_length (Err e) least most made = tt

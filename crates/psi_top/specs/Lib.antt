@@ -1,7 +1,6 @@
 pub mod Commands
 pub mod Comparing
 pub mod Deal
-pub mod Dealing
 pub mod Dialogue
 pub mod Due
 pub mod Files
@@ -9,6 +8,7 @@ pub mod Form
 pub mod Local
 pub mod LocalPromises
 pub mod Promises
+pub mod Session
 pub mod Texts
 pub mod Tree
 pub mod Walk

@@ -3,10 +3,10 @@
 
 mod comparing;
 mod deal;
-mod dealing;
 mod entry;
 mod form;
 mod local;
+mod session;
 mod status;
 mod steps;
 mod texts;

@@ -1,37 +1,40 @@
 // Both ends of a session in one run.
 ghost use Rattle.std.specs.Prelude.{◌≡◌, ◌≤◌, ◌∷◌, [], IfOk, Some, None, length};
-ghost use Rattle.psi_spec.specs.Words.{bad_word, number_of, seed_of, word_at};
-ghost use Rattle.psi_top.specs.Comparing.{IsDealt, IsReady};
+ghost use Rattle.psi_spec.specs.Deals.{ArePair, IsReceiverDeal, IsSenderDeal};
+ghost use Rattle.psi_spec.specs.Words.{bad_word};
 ghost use Rattle.psi_top.specs.Form.{command_of};
-ghost use Rattle.psi_top.specs.Local.{few_enough, local_text, local_tree, most_local};
+ghost use Rattle.psi_top.specs.Local.{few_enough, local_receiver, local_sender, local_text, local_tree, most_local};
 ghost use Rattle.psi_top.specs.Tree.{end_of, ended, ends, says};
 ghost use Rattle.psi_top.specs.Walk.{Runs, Settles};
 
 use crate::comparing::{compare_items, comparisons, met_text};
-use crate::dealing::Dealt;
 use crate::form::{Command, word_at};
+use crate::session::exchange;
 use crate::status::{Outcome, Status, outcome_of};
 use crate::steps::{print_text, read_items};
 use crate::values::{number_of_tag_length, seed_of, session_of};
-use psi_base::{Words, World, bins};
+use psi_base::{USUAL_STASH, Words, World};
+use psi_deal::{ReceiverDeal, SenderDeal, deal};
 use psi_items::Items;
 use std::alloc::{AllocError, Global};
 
 /// The most items of the receiver.
 const MOST_ITEMS: u32 = 4;
 
-// The deal that the words name.
-fn local_deal(alloc: Global, words: &Words) -> Result<Dealt, AllocError>
+// The pair of deals that the words name.
+fn local_deals(alloc: Global, words: &Words) -> Result<(ReceiverDeal, SenderDeal), AllocError>
     requires fit { bad_word words.now ≡ None }
     requires named { command_of words.now ≡ Some Command.Local }
-    ensures dealt { IfOk result (IsDealt (seed_of (word_at words.now 3)) (number_of (word_at words.now 4))
-        (number_of (word_at words.now 5))) }
-    ensures ready { IfOk result IsReady }
+    ensures receiver { IfOk result (λ deals. deals.0 ≡ local_receiver words.now) }
+    ensures sender { IfOk result (λ deals. deals.1 ≡ local_sender words.now) }
+    ensures sizes { IfOk result (λ deals. IsReceiverDeal deals.0 × IsSenderDeal deals.1) }
+    ensures pair { IfOk result (λ deals. ArePair deals.0 deals.1) }
 {
     let seed = seed_of(word_at(words, 3));
     let session = session_of(word_at(words, 4));
     let tag_length = number_of_tag_length(word_at(words, 5));
-    Dealt::new(alloc, &seed, session, tag_length)
+    // A tag length that is in form is never refused: only memory can be wanting.
+    deal(alloc, &seed, session, tag_length, USUAL_STASH).map_err(|_| AllocError)
 }
 
 // What is printed for these items.
@@ -41,9 +44,10 @@ fn local_text(alloc: Global, words: &Words, x: &Items, y: &Items) -> Result<Vec<
     requires few { length x.now ≤ most_local }
     ensures { IfOk result (λ text. text.items ≡ local_text words.now x.now y.now) }
 {
-    let dealt = local_deal(alloc, words)?;
-    let mut compared = comparisons(alloc, &dealt, bins(x.len()), x)?;
-    compare_items(&dealt, y, &mut compared);
+    let (receiver, sender) = local_deals(alloc, words)?;
+    let rows = exchange(alloc, &receiver, &sender, x).map_err(|_| AllocError)?;
+    let mut compared = comparisons(alloc, &receiver, &rows, x.len())?;
+    compare_items(&sender, y, &mut compared);
     met_text(alloc, &compared, x)
 }
 

@@ -7,7 +7,7 @@ use Rattle.psi_top.proofs.comparing.compare_item.Goals as goal
 
 pub loop-comparison-preserved : goal.loop-comparison-preserved
 loop-comparison-preserved c =
-    let f : Comparison → Comparison = after_code c.args.dealt.now c.code-code.result in
+    let f : Comparison → Comparison = after_code c.args.deal.now c.code-code.result in
     let i = c.loop-comparison.comparison-index in
     let x = c.comparison-item.result in
     ap (set c.loop-comparison.comparison-items i) c.compare.ensures

@@ -5,4 +5,4 @@ use Rattle.psi_top.proofs.comparing.compare_item.Given as goal
 
 -- those before the index were compared
 abbrev pub invariant-loop-comparison : goal.invariant-loop-comparison
-invariant-loop-comparison l = l.comparison-items ≡ changed_to (after_code l.dealt l.code) l.initial.comparison-items l.comparison-index
+invariant-loop-comparison l = l.comparison-items ≡ changed_to (after_code l.deal l.code) l.initial.comparison-items l.comparison-index

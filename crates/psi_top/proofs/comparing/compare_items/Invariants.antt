@@ -6,7 +6,7 @@ use Rattle.psi_top.proofs.comparing.compare_items.Given as goal
 abbrev pub invariant-loop-item : goal.invariant-loop-item
 invariant-loop-item l = record {
   within : l.place ≤ length l.items;
-  compared : l.comparisons ≡ map (after_items l.dealt (take l.place l.items)) l.initial.comparisons;
+  compared : l.comparisons ≡ map (after_items l.deal (take l.place l.items)) l.initial.comparisons;
 }
 
 abbrev pub decreases-loop-item : goal.decreases-loop-item

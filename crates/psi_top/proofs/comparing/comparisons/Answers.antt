@@ -1,20 +1,13 @@
-use Rattle.std.proofs.Common.{◌∙◌, ◌++◌, ◌∷◌, [], List, ap, sym, arith, take}
-use Rattle.psi_top.specs.Comparing.{comparisons_from}
-use Rattle.psi_top.specs.declared.comparing.Comparison.{Comparison}
-use Rattle.psi_top.proofs.Compared.{one_comparison, stands_at}
+use Rattle.std.proofs.Common.{◌∙◌, ◌+◌, ℕ, ap}
+use Rattle.psi_spec.specs.Limits.{bins_for}
+use Rattle.psi_top.specs.Comparing.{comparison_at}
+use Rattle.psi_top.proofs.Compared.{one_made}
 use Rattle.psi_top.proofs.comparing.comparisons.Goals as goal
 
-pub loop-item-preserved : goal.loop-item-preserved
-loop-item-preserved c =
-    let dealt = c.args.dealt.now in
-    let row = c.args.first_row in
-    let xs = c.args.items.now in
-    let place = c.loop-item.place in
-    let at = stands_at xs place c.in-Some.item.now c.in-Some.ensures.item in
-    record {
-      within = let l = at.within in omega arith;
-      made = c.in_ok-push.ensures.items
-          ∙ ap (λ (made : List Comparison). made ++ c.new.result ∷ []) c.loop-item.invariant.made
-          ∙ ap (λ (one : Comparison). comparisons_from dealt row (take place xs) ++ one ∷ []) c.new.ensures
-          ∙ sym (one_comparison dealt row xs place c.in-Some.item.now at);
-    }
+pub loop-place-preserved : goal.loop-place-preserved
+loop-place-preserved c =
+    let deal = c.args.deal.now in
+    let rows = c.args.rows.now in
+    let place = c.loop-place.place in
+    one_made deal rows (bins_for c.args.count) place c.loop-place.made.items c.push.new.self.items c.new.result c.loop-place.invariant
+    (c.new.ensures ∙ ap (λ (n : ℕ). comparison_at deal rows (n + place)) c.bins-first.ensures) c.in_ok-push.ensures.items
