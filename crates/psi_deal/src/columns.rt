@@ -1,5 +1,5 @@
 // Columns of key streams.
-ghost use Rattle.std.specs.Prelude.{◌≡◌, ◌≤◌, ◌<◌, ◌%◌, ◌^◌, ℕ, length, All};
+ghost use Rattle.std.specs.Prelude.{◌≡◌, length};
 ghost use Rattle.psi_spec.specs.Columns.{column as column_of, column_bytes, key_stream};
 
 use rand_chacha::ChaCha20Rng;
@@ -15,23 +15,6 @@ pub fn fill_stream(seed: &[u8; 32], stream: u64, out: &mut [u8])
     rng.fill_bytes(out);
 }
 
-// The low bits, fewer than 8, of a byte.
-fn low_bits(byte: u8, count: u32) -> u8
-    requires { count < 8 }
-    ensures { result ≡ byte % 2 ^ count }
-{
-    match count {
-        0 => 0,
-        1 => byte % 2,
-        2 => byte % 4,
-        3 => byte % 8,
-        4 => byte % 16,
-        5 => byte % 32,
-        6 => byte % 64,
-        _ => byte % 128,
-    }
-}
-
 /// Fills `out`, as many bytes as hold one bit for each row, with the column of a seed in a session.
 /// The bits past the last row are zero.
 #[tactic(auto, unfolding(psi_spec::specs::Columns::column))]
@@ -42,7 +25,6 @@ pub fn fill_column(seed: &[u8; 32], session: u64, rows: u32, out: &mut [u8])
     fill_stream(seed, session, out);
     let over = rows % 8;
     if over != 0 {
-        let last = (rows / 8) as usize;
-        out[last] = low_bits(out[last], over);
+        out[(rows / 8) as usize] %= 1 << over;
     }
 }

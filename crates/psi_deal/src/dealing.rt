@@ -1,5 +1,5 @@
 // The pair of deals of a seed.
-ghost use Rattle.std.specs.Prelude.{◌≡◌, ℕ, IfOk, None, vec_len};
+ghost use Rattle.std.specs.Prelude.{◌≡◌, IfOk, None, vec_len};
 ghost use Rattle.psi_spec.specs.Deals.{ArePair, IsReceiverDeal, IsSenderDeal, deal_bytes, dealt_receiver, dealt_sender};
 ghost use Rattle.psi_deal.specs.BadDeals.{Answers, bad_request};
 

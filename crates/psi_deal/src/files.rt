@@ -1,5 +1,5 @@
 // Deal files.
-ghost use Rattle.std.specs.Prelude.{◌≡◌, ◌≤◌, ℕ, List, length, IfOk, None};
+ghost use Rattle.std.specs.Prelude.{◌≡◌, ◌≤◌, length, IfOk, None};
 ghost use Rattle.psi_spec.specs.Limits.{file_limit};
 ghost use Rattle.psi_spec.specs.Deals.{ReceiverDeal as Receiver, SenderDeal as Sender, IsReceiverDeal, IsSenderDeal};
 ghost use Rattle.psi_spec.specs.DealFiles.{sealed, receiver_size, sender_size, receiver_of, sender_of, receiver_bytes, sender_bytes};

@@ -1,5 +1,5 @@
 // What both deals hold.
-ghost use Rattle.std.specs.Prelude.{◌≡◌, ◌≤◌, ◌++◌, ℕ, length, drop, take, slice_index, IfOk};
+ghost use Rattle.std.specs.Prelude.{◌≡◌, ◌≤◌, length, drop, take, slice_index, IfOk};
 ghost use Rattle.std.specs.Int.{w64, from_be_bytes};
 ghost use Rattle.psi_spec.specs.DealFiles.{deal_front};
 ghost use Rattle.psi_deal.specs.Roles.{role_byte};

@@ -1,5 +1,5 @@
 // What is wrong with the bytes of a deal file.
-ghost use Rattle.std.specs.Prelude.{◌≡◌, ◌≤◌, ◌<◌, ◌^◌, ℕ, length};
+ghost use Rattle.std.specs.Prelude.{◌≡◌, ◌≤◌, ◌<◌, ◌^◌, length};
 ghost use Rattle.psi_spec.specs.Deals.{fits_tag_length as tag_length_fits, fits_stash as stash_fits};
 ghost use Rattle.psi_spec.specs.DealFiles.{has_magic as magic_of, has_other as other_at, is_sealed as sealed_by};
 ghost use Rattle.psi_deal.specs.Roles.{role_byte, role_size};

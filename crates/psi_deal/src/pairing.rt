@@ -1,5 +1,5 @@
 // Whether two deals are a pair.
-ghost use Rattle.std.specs.Prelude.{◌≡◌, ◌≤◌, ◌<◌, ◌↔◌, ℕ, length, IsNone, option_map};
+ghost use Rattle.std.specs.Prelude.{◌≡◌, ◌<◌, ◌↔◌, length, IsNone};
 ghost use Rattle.psi_spec.specs.Deals.{ArePair, chosen_from};
 ghost use Rattle.psi_deal.specs.Pairs.{pairs_of};
 ghost use Rattle.psi_deal.specs.Differences.{differ_from, first_difference};

@@ -1,7 +1,7 @@
 // The receiver's deal.
-ghost use Rattle.std.specs.Prelude.{◌≡◌, ◌≤◌, ◌<◌, ℕ, length, map};
+ghost use Rattle.std.specs.Prelude.{◌≡◌, ◌≤◌, ◌<◌, length, map};
 ghost use Rattle.psi_spec.specs.Columns.{column};
-ghost use Rattle.psi_spec.specs.Matrices.{Matrix, IsCleanMatrix};
+ghost use Rattle.psi_spec.specs.Matrices.{IsCleanMatrix};
 ghost use Rattle.psi_spec.specs.Deals.{seed_at, chosen_seed, zero_columns, one_columns};
 ghost use Rattle.psi_deal.specs.Pairs.{pairs_of};
 

@@ -1,7 +1,7 @@
 // The seeds of base transfers.
-ghost use Rattle.std.specs.Prelude.{◌≡◌, ◌≤◌, ◌<◌, ◌+◌, ◌*◌, ◌++◌, ℕ, length, drop, take, IfOk, OnOk, All, vec_len};
+ghost use Rattle.std.specs.Prelude.{◌≡◌, ◌≤◌, ◌<◌, ◌+◌, ◌*◌, ◌++◌, length, IfOk, OnOk};
 ghost use Rattle.psi_spec.specs.Bits.{bit_of};
-ghost use Rattle.psi_spec.specs.Deals.{HasSeeds, seed_pairs, chosen_from, chosen_seed as chosen_of};
+ghost use Rattle.psi_spec.specs.Deals.{seed_pairs, chosen_from, chosen_seed as chosen_of};
 ghost use Rattle.psi_spec.specs.DealFiles.{seeds_of, pairs_bytes, seeds_bytes};
 ghost use Rattle.psi_deal.specs.Pairs.{pair_of, pairs_of};
 

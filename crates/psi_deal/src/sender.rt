@@ -1,7 +1,7 @@
 // The sender's deal.
-ghost use Rattle.std.specs.Prelude.{◌≡◌, ◌≤◌, ◌<◌, ℕ, [], length, map, slice_index_or};
+ghost use Rattle.std.specs.Prelude.{◌≡◌, ◌≤◌, ◌<◌, [], length, map, slice_index_or};
 ghost use Rattle.psi_spec.specs.Columns.{column};
-ghost use Rattle.psi_spec.specs.Matrices.{Matrix, IsCleanMatrix};
+ghost use Rattle.psi_spec.specs.Matrices.{IsCleanMatrix};
 ghost use Rattle.psi_spec.specs.Deals.{sender_columns};
 
 use crate::columns::fill_column;
