@@ -45,16 +45,16 @@ length-peer_word stash s index row y is_setup =
 
 -- ---- padded tags
 
-abbrev pub wide_own_tag : Setup → Slot → List ℕ
-wide_own_tag s slot = padded_tag s.key s.tag_length slot.row (row_of s.columns slot.row)
+abbrev pub padded_own_tag : Setup → Slot → List ℕ
+padded_own_tag s slot = padded_tag s.key s.tag_length slot.row (row_of s.columns slot.row)
 
-abbrev pub wide_peer_tag : Setup → ℕ → ℕ → List ℕ → List ℕ
-wide_peer_tag s index row y = padded_tag s.key s.tag_length row (peer_word s index row y)
+abbrev pub padded_peer_tag : Setup → ℕ → ℕ → List ℕ → List ℕ
+padded_peer_tag s index row y = padded_tag s.key s.tag_length row (peer_word s index row y)
 
 -- to compare the padded tags is to compare the tags
-pub meets_by_wide_tags : (s : Setup) (slot : Slot) (y : List ℕ) → meets s slot y ≡ bytes_eq (wide_own_tag s slot) (wide_peer_tag s slot.index (peer_row s slot y) y)
+pub meets_by_padded_tags : (s : Setup) (slot : Slot) (y : List ℕ) → meets s slot y ≡ bytes_eq (padded_own_tag s slot) (padded_peer_tag s slot.index (peer_row s slot y) y)
 unfolding meets own_tag peer_tag
-meets_by_wide_tags s slot y =
+meets_by_padded_tags s slot y =
     let row : ℕ = peer_row s slot y in
     sym (bytes_eq-padded_tag s.key s.tag_length slot.row row (row_of s.columns slot.row) (peer_word s slot.index row y))
 
@@ -70,24 +70,24 @@ list_any_agree p q (x ∷ xs) same = let t = same x in let ts : list_any p xs �
 
 -- the padded peer tags of the sender's items at an index from 1 to 3, each at its own bin
 abbrev pub bin_tags : Setup → ℕ → List (List ℕ) → List (List ℕ)
-bin_tags s index ys = map (λ y. wide_peer_tag s index (bin s.key s.bins index (item_digest y)) y) ys
+bin_tags s index ys = map (λ y. padded_peer_tag s index (bin s.key s.bins index (item_digest y)) y) ys
 
 -- the padded peer tags of the sender's items at a row of the stash
 abbrev pub stash_tags : Setup → ℕ → List (List ℕ) → List (List ℕ)
-stash_tags s row ys = map (wide_peer_tag s 0 row) ys
+stash_tags s row ys = map (padded_peer_tag s 0 row) ys
 
-pub meets_in_bin : (s : Setup) (slot : Slot) (ys : List (List ℕ)) → 0 < slot.index → list_any (meets s slot) ys ≡ list_any (bytes_eq (wide_own_tag s slot)) (bin_tags s slot.index ys)
+pub meets_in_bin : (s : Setup) (slot : Slot) (ys : List (List ℕ)) → 0 < slot.index → list_any (meets s slot) ys ≡ list_any (bytes_eq (padded_own_tag s slot)) (bin_tags s slot.index ys)
 meets_in_bin s slot ys l =
     let of_bin : nat_eq slot.index 0 ≡ false = ne_eqb slot.index 0 (λ h. omega arith) in
-    list_any_agree (meets s slot) (λ y. bytes_eq (wide_own_tag s slot) (wide_peer_tag s slot.index (bin s.key s.bins slot.index (item_digest y)) y)) ys
-    (λ y. meets_by_wide_tags s slot y ∙ ap (λ (b : Bool). bytes_eq (wide_own_tag s slot) (wide_peer_tag s slot.index (cond b slot.row (bin s.key s.bins slot.index (item_digest y))) y)) of_bin)
-    ∙ sym (list_any-map (bytes_eq (wide_own_tag s slot)) (λ y. wide_peer_tag s slot.index (bin s.key s.bins slot.index (item_digest y)) y) ys)
+    list_any_agree (meets s slot) (λ y. bytes_eq (padded_own_tag s slot) (padded_peer_tag s slot.index (bin s.key s.bins slot.index (item_digest y)) y)) ys
+    (λ y. meets_by_padded_tags s slot y ∙ ap (λ (b : Bool). bytes_eq (padded_own_tag s slot) (padded_peer_tag s slot.index (cond b slot.row (bin s.key s.bins slot.index (item_digest y))) y)) of_bin)
+    ∙ sym (list_any-map (bytes_eq (padded_own_tag s slot)) (λ y. padded_peer_tag s slot.index (bin s.key s.bins slot.index (item_digest y)) y) ys)
 
-pub meets_in_stash : (s : Setup) (slot : Slot) (ys : List (List ℕ)) → slot.index ≡ 0 → list_any (meets s slot) ys ≡ list_any (bytes_eq (wide_own_tag s slot)) (stash_tags s slot.row ys)
+pub meets_in_stash : (s : Setup) (slot : Slot) (ys : List (List ℕ)) → slot.index ≡ 0 → list_any (meets s slot) ys ≡ list_any (bytes_eq (padded_own_tag s slot)) (stash_tags s slot.row ys)
 meets_in_stash s slot ys e =
     let of_stash : nat_eq slot.index 0 ≡ true = eq-eqb slot.index 0 e in
-    list_any_agree (meets s slot) (λ y. bytes_eq (wide_own_tag s slot) (wide_peer_tag s 0 slot.row y)) ys
-    (λ y. meets_by_wide_tags s slot y
-    ∙ (ap (λ (b : Bool). bytes_eq (wide_own_tag s slot) (wide_peer_tag s slot.index (cond b slot.row (bin s.key s.bins slot.index (item_digest y))) y)) of_stash
-    ∙ ap (λ (i : ℕ). bytes_eq (wide_own_tag s slot) (wide_peer_tag s i slot.row y)) e))
-    ∙ sym (list_any-map (bytes_eq (wide_own_tag s slot)) (wide_peer_tag s 0 slot.row) ys)
+    list_any_agree (meets s slot) (λ y. bytes_eq (padded_own_tag s slot) (padded_peer_tag s 0 slot.row y)) ys
+    (λ y. meets_by_padded_tags s slot y
+    ∙ (ap (λ (b : Bool). bytes_eq (padded_own_tag s slot) (padded_peer_tag s slot.index (cond b slot.row (bin s.key s.bins slot.index (item_digest y))) y)) of_stash
+    ∙ ap (λ (i : ℕ). bytes_eq (padded_own_tag s slot) (padded_peer_tag s i slot.row y)) e))
+    ∙ sym (list_any-map (bytes_eq (padded_own_tag s slot)) (padded_peer_tag s 0 slot.row) ys)

@@ -19,11 +19,11 @@ bytes_eq-append_right a b end =
     (Decides-like (bytes_eq (a ++ end) (b ++ end)) (append_cancel_right a b end) (ap (λ (x : List ℕ). x ++ end)) (bytes_eq-Decides (a ++ end) (b ++ end)))
     (bytes_eq-Decides a b)
 
--- wide tags of one length are equal where the tags are
+-- padded tags of one length are equal where the tags are
 pub bytes_eq-padded_tag : (key : List ℕ) (tag_length row row' : ℕ) (word word' : List ℕ) → bytes_eq (padded_tag key tag_length row word) (padded_tag key tag_length row' word') ≡ bytes_eq (tag key tag_length row word) (tag key tag_length row' word')
 unfolding padded_tag
 bytes_eq-padded_tag key tag_length row row' word word' = bytes_eq-append_right (tag key tag_length row word) (tag key tag_length row' word') (replicate (16 - tag_length) 0)
 
-pub wide_tag_inj : (key : List ℕ) (tag_length row row' : ℕ) (word word' : List ℕ) → padded_tag key tag_length row word ≡ padded_tag key tag_length row' word' → tag key tag_length row word ≡ tag key tag_length row' word'
+pub padded_tag_inj : (key : List ℕ) (tag_length row row' : ℕ) (word word' : List ℕ) → padded_tag key tag_length row word ≡ padded_tag key tag_length row' word' → tag key tag_length row word ≡ tag key tag_length row' word'
 unfolding padded_tag
-wide_tag_inj key tag_length row row' word word' e = append_cancel_right (tag key tag_length row word) (tag key tag_length row' word') (replicate (16 - tag_length) 0) e
+padded_tag_inj key tag_length row row' word word' e = append_cancel_right (tag key tag_length row word) (tag key tag_length row' word') (replicate (16 - tag_length) 0) e

@@ -1,7 +1,6 @@
 -- The status of a run comes from a step of its tree, along contents that were read.
-use Rattle.std.proofs.Common.{◌≡◌, ◌<◌, ◌≤◌, ◌⊎◌, inl, inr, ℕ, Bool, true, List, [], ◌∷◌, suc, slice_get, Option, Some, Ok, Err, refl, sym, ap, ◌∙◌, subst, arith}
+use Rattle.std.proofs.Common.{◌≡◌, ◌⊎◌, inl, inr, ℕ, Bool, true, List, [], ◌∷◌, suc, Option, Ok, Err, refl, sym, ap, subst}
 use Rattle.std.specs.declared.result.Result.{Result}
-use Rattle.psi_spec.specs.CrowdedLists.{IsCrowded, touched_by}
 use Rattle.psi_spec.specs.Placement.{Slot, IsPlacement}
 use Rattle.psi_spec.specs.Words.{word_at}
 use Rattle.psi_base.specs.Outside.{Known, Outside, Reads, Writes, PrintsAll, Opens}
@@ -11,8 +10,8 @@ use Rattle.psi_base.specs.declared.faults.ReadFault.{ReadFault}
 use Rattle.psi_base.specs.declared.faults.ReadFault.TheVariants as read
 use Rattle.psi_frames.specs.declared.turns.EndFault.{EndFault}
 use Rattle.psi_frames.specs.declared.turns.EndFault.TheVariants as peer
-use Rattle.psi_top.specs.Dialogue.{Dialogue, ReadSo, Talks, WereTaken, good, talked}
-use Rattle.psi_top.specs.Promises.{IsAnswered, IsNotPlaced, IsNotTalked, IsOfEffect, IsOfEnd, IsUnread, WasRead}
+use Rattle.psi_top.specs.Dialogue.{Dialogue, Talks, talked}
+use Rattle.psi_top.specs.Promises.{IsAnswered, IsNotPlaced, IsNotTalked, IsOfEnd, IsUnread}
 use Rattle.psi_top.specs.Tree.{Effect, says, puts, Placing, Tree, reads, refuses, places, opens, talks, ends, End, stopped}
 use Rattle.psi_top.specs.Walk.{AtCall, AtPlace, AtRefusal, AtEnd, starved, cut, passed, hungry, crowded, placed, given_up, refused, gave_up, all_done, IsVerdict, Does, Follows, read_status, write_status, print_status, open_status, talk_status}
 use Rattle.psi_top.specs.declared.status.Status.{Status}

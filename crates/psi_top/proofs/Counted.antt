@@ -1,9 +1,9 @@
 -- Which count a run changes: that of its status's cause, and no other.
-use Rattle.std.proofs.Common.{◌≡◌, ◌≤◌, ◌⊎◌, inl, inr, ℕ, Bool, IsTrue, true, false, List, [], ◌∷◌, take, Option, Some, None, Ok, Err, refl, sym, ap, ◌∙◌, subst, arith}
+use Rattle.std.proofs.Common.{◌≡◌, ◌≤◌, ◌⊎◌, inl, inr, ℕ, Bool, true, false, List, [], ◌∷◌, take, Option, Some, None, Ok, Err, refl, sym, ap, ◌∙◌, subst, arith}
 use Rattle.std.specs.declared.result.Result.{Result}
 use Rattle.psi_spec.specs.Placement.{Slot}
 use Rattle.psi_spec.specs.Words.{word_at}
-use Rattle.psi_base.specs.Outside.{Known, Outside, Files, LacksFile, Rose, Reads, Writes, PrintsAll, Opens, Starved, written, partly_written}
+use Rattle.psi_base.specs.Outside.{Known, Outside, Files, LacksFile, Rose, Reads, Writes, PrintsAll, Opens, Starved, partly_written}
 use Rattle.psi_base.specs.declared.faults.Fault.{Fault}
 use Rattle.psi_base.specs.declared.faults.Fault.TheVariants as fault
 use Rattle.psi_base.specs.declared.faults.ReadFault.{ReadFault}

@@ -1,5 +1,5 @@
 -- The promise of `deal` in its own words.
-use Rattle.std.proofs.Common.{◌≡◌, ℕ, List, ap}
+use Rattle.std.proofs.Common.{ℕ, List, ap}
 use Rattle.psi_spec.specs.Deals.{ArePair}
 use Rattle.psi_spec.specs.Words.{number_of, seed_of, stash_of, tag_length_of, word_at}
 use Rattle.psi_spec.proofs.Dealing.{dealt_are_pairs}

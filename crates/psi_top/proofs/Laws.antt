@@ -1,16 +1,16 @@
 -- The promises that follow from `Answers`, for every command.
-use Rattle.std.proofs.Common.{◌≡◌, ◌==◌, ◌⊎◌, inl, inr, ℕ, Bool, IsTrue, true, false, List, [], ◌∷◌, length, slice_get, Option, Some, None, refl, sym, ap, ◌∙◌, subst, arith, unwrap_or, if◌then◌else◌}
+use Rattle.std.proofs.Common.{◌≡◌, ◌==◌, ◌⊎◌, inl, inr, ℕ, Bool, true, false, List, [], ◌∷◌, slice_get, Option, Some, None, refl, sym, ap, ◌∙◌, subst, arith, unwrap_or, if◌then◌else◌}
 use Rattle.std.proofs.lemmas.Bool.Decides.{nat_tests}
 use Rattle.psi_spec.specs.CrowdedLists.{IsCrowded, touched_by}
 use Rattle.psi_spec.specs.Placement.{Slot, IsPlacement}
 use Rattle.psi_spec.specs.Words.{bad_word}
 use Rattle.psi_spec.proofs.Crowding.{no_placement}
-use Rattle.psi_base.specs.Outside.{Known, Outside, Files, Rose}
+use Rattle.psi_base.specs.Outside.{Known, Outside, Rose}
 use Rattle.psi_top.specs.Commands.{Answers, AnswersBy, tree_of}
-use Rattle.psi_top.specs.Dialogue.{Dialogue, Reading, talked}
+use Rattle.psi_top.specs.Dialogue.{Reading, talked}
 use Rattle.psi_top.specs.Due.{Contents, Due, lacks, long, refusal, unplaced, reached, due, told, without, judged, heard}
 use Rattle.psi_top.specs.Form.{command_of}
-use Rattle.psi_top.specs.Promises.{Completes, CountsBy, DoneLeaves, IsAnswered, IsBadWords, IsCalm, IsCounted, IsDue, IsOfCommand, IsOfEffect, IsReady, IsStoppedAt, IsWhatIsDue, Leaves, OnTold, RunsThrough, Stands, StandsAt}
+use Rattle.psi_top.specs.Promises.{Completes, CountsBy, DoneLeaves, IsAnswered, IsBadWords, IsCalm, IsCounted, IsDue, IsOfCommand, IsReady, IsStoppedAt, IsWhatIsDue, Leaves, OnTold, RunsThrough, StandsAt}
 use Rattle.psi_top.specs.Tree.{Effect, says, puts, Placing, Tree, reads, refuses, places, opens, talks, ends, End}
 use Rattle.psi_top.specs.Walk.{IsVerdict, Runs}
 use Rattle.psi_top.specs.declared.form.Command.{Command}

@@ -1,7 +1,7 @@
 -- What a run that is done read, placed, exchanged and left.
-use Rattle.std.proofs.Common.{◌≡◌, ℕ, Bool, true, List, [], ◌∷◌, Option, Ok, Err, refl, sym, ap, ◌∙◌, subst}
+use Rattle.std.proofs.Common.{◌≡◌, ℕ, Bool, true, List, [], ◌∷◌, Option, Ok, sym, ap, ◌∙◌, subst}
 use Rattle.std.specs.declared.result.Result.{Result}
-use Rattle.psi_spec.specs.Placement.{Slot, IsPlacement}
+use Rattle.psi_spec.specs.Placement.{Slot}
 use Rattle.psi_spec.specs.Words.{word_at}
 use Rattle.psi_base.specs.Outside.{Known, Outside, Reads, Writes, PrintsAll, Opens, printed_too, written}
 use Rattle.psi_base.specs.declared.faults.Fault.{Fault}
@@ -10,7 +10,7 @@ use Rattle.psi_base.specs.declared.faults.ReadFault.{ReadFault}
 use Rattle.psi_base.specs.declared.faults.ReadFault.TheVariants as read
 use Rattle.psi_frames.specs.declared.turns.EndFault.{EndFault}
 use Rattle.psi_frames.specs.declared.turns.EndFault.TheVariants as peer
-use Rattle.psi_top.specs.Dialogue.{Dialogue, Talks, talked}
+use Rattle.psi_top.specs.Dialogue.{Talks, talked}
 use Rattle.psi_top.specs.Due.{after_effects}
 use Rattle.psi_top.specs.Promises.{Leaves}
 use Rattle.psi_top.specs.Tree.{Effect, says, puts, Placing, Tree, reads, refuses, places, opens, talks, ends, End}

@@ -1,14 +1,13 @@
 -- The promises of `local` in its own words.
-use Rattle.std.proofs.Common.{◌≡◌, ◌<◌, ◌≤◌, ◌⊎◌, inl, inr, ℕ, Bool, true, false, nat_lt, List, [], ◌∷◌, length, map, Option, Some, None, Ok, Err, refl, sym, ap, ◌∙◌, subst, arith, slice_get, zero, suc}
+use Rattle.std.proofs.Common.{◌≡◌, ◌<◌, ◌≤◌, inl, inr, ℕ, Bool, true, false, nat_lt, List, [], ◌∷◌, length, map, Option, Some, None, Ok, Err, refl, sym, ap, ◌∙◌, subst, arith, slice_get, zero, suc}
 use Rattle.std.specs.List.{Contains}
 use Rattle.std.specs.declared.result.Result.{Result}
 use Rattle.std.proofs.lemmas.Bool.Decides.{nat_tests}
 use Rattle.psi_spec.specs.Items.{BadLine, first_bad, items_of}
 use Rattle.psi_spec.specs.Limits.{bins_for, file_limit, usual_stash}
 use Rattle.psi_spec.specs.Meeting.{IsSetup, ShowsCommon, shown}
-use Rattle.psi_spec.specs.Placement.{IsPlacementOf}
 use Rattle.psi_spec.specs.Texts.{lines_text}
-use Rattle.psi_spec.specs.Words.{bad_word, number_of, seed_of, word_at}
+use Rattle.psi_spec.specs.Words.{number_of, seed_of, word_at}
 use Rattle.psi_spec.proofs.Dealing.{dealt_setup, stash_placement}
 use Rattle.psi_spec.proofs.Meeting.{shows_common}
 use Rattle.psi_spec.proofs.Placing.{items_of-placed_of, length-stash_slots}
@@ -17,12 +16,10 @@ use Rattle.psi_items.specs.Reading.{bad_items_of}
 use Rattle.psi_items.specs.declared.errors.BadItems.{BadItems}
 use Rattle.psi_top.specs.Commands.{Answers}
 use Rattle.psi_top.specs.Files.{items_in, judged_items, reads_items}
-use Rattle.psi_top.specs.Form.{command_of}
 use Rattle.psi_top.specs.Local.{few_enough, local_receiver, local_rest, local_setup, local_slots, local_text, local_tree, most_local}
-use Rattle.psi_top.specs.LocalPromises.{HasBadLine, HasBoth, HasItems, IsOfLocal, LocalAnswers, LocalShows, OnFirstOrSecond, PrintedShown}
+use Rattle.psi_top.specs.LocalPromises.{HasBadLine, HasBoth, HasItems, IsOfLocal, LocalAnswers, LocalShows, PrintedShown}
 use Rattle.psi_top.specs.Promises.{IsAnswered, IsOfEffect, IsOfEnd, IsUnread, Leaves, WasRead}
-use Rattle.psi_top.specs.Tree.{Effect, says, Tree, decides, reads, refuses, ends, End}
-use Rattle.psi_top.specs.Walk.{IsVerdict}
+use Rattle.psi_top.specs.Tree.{Effect, says, Tree, decides, ends, End}
 use Rattle.psi_top.specs.declared.form.Command.TheVariants.{Local}
 use Rattle.psi_top.specs.declared.status.Status.{Status}
 use Rattle.psi_top.specs.declared.status.Status.TheVariants as status

@@ -10,7 +10,6 @@ use Rattle.psi_top.specs.Due.{Contents, told}
 use Rattle.psi_top.specs.Tree.{Effect, says, puts, Placing, Tree, reads, refuses, places, opens, talks, ends, End, stopped}
 use Rattle.psi_top.specs.Walk.{AtCall, AtPlace, AtRefusal, AtEnd, starved, cut, passed, hungry, crowded, placed, given_up, refused, gave_up, all_done, Does, Follows, read_status, write_status, print_status, open_status, talk_status}
 use Rattle.psi_top.specs.declared.status.Status.{Status}
-use Rattle.psi_top.specs.declared.status.Status.TheVariants as status
 use Rattle.psi_top.proofs.Walked.{told_file}
 
 -- the slots that a run carries are placements of the sets that its tree places, in their order

@@ -11,7 +11,7 @@ use Rattle.psi_spec.specs.Placement.{Slot, stash_slots}
 use Rattle.psi_spec.specs.Meeting.{Setup, row_word, meets, shown}
 use Rattle.psi_spec.specs.Texts.{lines_text}
 use Rattle.psi_spec.proofs.Placing.{length-stash_slots}
-use Rattle.psi_spec.proofs.Comparing.{peer_word_opened, meets_by_wide_tags}
+use Rattle.psi_spec.proofs.Comparing.{peer_word_opened, meets_by_padded_tags}
 use Rattle.psi_spec.proofs.Printing.{flagged, flags_of, shown_by_flags}
 use Rattle.psi_top.specs.Comparing.{meets_code, after_items, comparison_at, comparisons_from, met_items}
 use Rattle.psi_top.specs.Local.{local_receiver, local_sender, local_setup, local_text}
@@ -41,7 +41,7 @@ module _ (receiver : ReceiverDeal) (sender : SenderDeal) (xs ys : List (List ℕ
       ∙ (ap (λ (own : List ℕ). test s.key s.tag_length own (get_or rows.opened row [])) (has.own row within)
       ∙ (ap (λ (opened : List ℕ). test s.key s.tag_length t opened) (has.opened row within)
       ∙ (ap (λ (peer : List ℕ). bytes_eq (padded_tag s.key s.tag_length row t) (padded_tag s.key s.tag_length row peer)) (peer_word_opened s 0 row y)
-      ∙ sym (meets_by_wide_tags s (record { row = row; index = 0 }) y)))))
+      ∙ sym (meets_by_padded_tags s (record { row = row; index = 0 }) y)))))
 
   -- the flags of the comparisons are those of the slots
   flags_met : (row count : ℕ) → row + count ≤ rows_for usual_stash (length xs)

@@ -7,7 +7,7 @@ use Rattle.psi_spec.specs.Meeting.{Setup, setup_of, shown}
 use Rattle.psi_spec.specs.Texts.{lines_text}
 use Rattle.psi_spec.specs.Words.{word_at, seed_of, number_of}
 use Rattle.psi_top.specs.Files.{reads_items}
-use Rattle.psi_top.specs.Tree.{Effect, says, Tree, ends, decides}
+use Rattle.psi_top.specs.Tree.{says, Tree, ends, decides}
 use Rattle.psi_top.specs.declared.status.Status.{Status}
 use Rattle.psi_top.specs.declared.status.Status.TheVariants.{LargeSet}
 

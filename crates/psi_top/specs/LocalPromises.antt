@@ -1,5 +1,5 @@
 -- What callers read of `local`, in its own words.
-use Rattle.std.specs.Prelude.{◌≡◌, ◌<◌, ◌≤◌, ◌⊎◌, ℕ, List, Contains, length, map, Option, Some, None}
+use Rattle.std.specs.Prelude.{◌≡◌, ◌<◌, ◌≤◌, ◌⊎◌, ℕ, List, Contains, length, map, Some, None}
 use Rattle.psi_spec.specs.Items.{BadLine, first_bad, items_of}
 use Rattle.psi_spec.specs.Limits.{bins_for, file_limit, usual_stash}
 use Rattle.psi_spec.specs.Meeting.{Placed, SharesTag, shown, shown_placed}

@@ -10,7 +10,7 @@ use Rattle.psi_base.specs.declared.faults.ReadFault.{ReadFault}
 use Rattle.psi_base.specs.declared.faults.ReadFault.TheVariants as read
 use Rattle.psi_frames.specs.declared.turns.EndFault.{EndFault}
 use Rattle.psi_frames.specs.declared.turns.EndFault.TheVariants as peer
-use Rattle.psi_top.specs.Dialogue.{Dialogue, Talks}
+use Rattle.psi_top.specs.Dialogue.{Talks}
 use Rattle.psi_top.specs.Tree.{Effect, says, puts, Placing, Tree, reads, refuses, places, opens, talks, ends, End, stopped, with_slots}
 use Rattle.psi_top.specs.declared.status.Status.{Status}
 use Rattle.psi_top.specs.declared.status.Status.TheVariants as status

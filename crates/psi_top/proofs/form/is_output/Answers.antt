@@ -1,4 +1,4 @@
-use Rattle.std.proofs.Common.{◌≡◌, ◌∙◌, sym, ap, false, rules}
+use Rattle.std.proofs.Common.{◌≡◌, ◌∙◌, sym, ap, false}
 use Rattle.std.specs.Str.{bytes_eq}
 use Rattle.psi_spec.specs.Words.{word_at}
 use Rattle.psi_top.proofs.Forms.{is_among-later}
