@@ -9,28 +9,12 @@ use Rattle.std.proofs.lemmas.List.Folds.{list_any_at, list_any_none}
 use Rattle.std.proofs.lemmas.Option.{none-some, slice_get_within}
 use Rattle.std.proofs.lemmas.Map.Keys.{apart_from_distinct}
 use Rattle.psi_spec.specs.Placement.{IsPlacement, MayHave, Slot}
+use Rattle.psi_spec.proofs.Crowding.{length_zip, may_have_at, nowhere}
 use Rattle.psi_cuckoo.specs.Table.{AreOccupants, NameBins, no_slot, occupant_at, slot_at, slot_of}
 use Rattle.psi_cuckoo.specs.Refusal.{fault_of, first_fault, may_have}
 use Rattle.psi_cuckoo.specs.declared.slot.Slot.{Slot as RowSlot}
 use Rattle.psi_cuckoo.specs.declared.errors.BadSlots.{BadSlots}
 use Rattle.psi_cuckoo.specs.declared.errors.BadSlots.TheVariants.{Count, Index, Row, Twice, NoMemory}
-
--- ---- what a placement has at a place
-
-pub length_zip : {A B : Type 0} (R : A → B → Type 0) (xs : List A) (ys : List B) → AllZip R xs ys → length xs ≡ length ys
-length_zip R [] [] h = refl
-length_zip R [] (y ∷ ys) h = absurd h
-length_zip R (x ∷ xs) [] h = absurd h
-length_zip R (x ∷ xs) (y ∷ ys) h = ap suc (length_zip R xs ys h.1)
-
-nowhere : Slot
-nowhere = record { row = 0; index = 0 }
-
-may_have_at : (stash bins : ℕ) (candidates : List (List ℕ)) (slots : List Slot) (i : ℕ) → AllZip (MayHave stash bins) candidates slots → i < length candidates → MayHave stash bins (get_or candidates i []) (get_or slots i nowhere)
-may_have_at stash bins [] slots i each l = absurd (omega arith)
-may_have_at stash bins (x ∷ xs) [] i each l = absurd each
-may_have_at stash bins (x ∷ xs) (s ∷ ss) zero each l = each.0
-may_have_at stash bins (x ∷ xs) (s ∷ ss) (suc i) each l = may_have_at stash bins xs ss i each.1 (omega arith)
 
 -- ---- the tests of a slot
 

@@ -40,7 +40,7 @@ length-item_rows : (slots : List Slot) (items : List ℕ) → length (item_rows 
 unfolding item_rows
 length-item_rows slots items = length-map items (λ i. get_or (rows_of slots) i 0)
 
-length_zip : {A B : Type 0} (R : A → B → Type 0) (xs : List A) (ys : List B) → AllZip R xs ys → length xs ≡ length ys
+pub length_zip : {A B : Type 0} (R : A → B → Type 0) (xs : List A) (ys : List B) → AllZip R xs ys → length xs ≡ length ys
 length_zip R [] [] h = refl
 length_zip R [] (y ∷ ys) h = absurd h
 length_zip R (x ∷ xs) [] h = absurd h
@@ -68,10 +68,10 @@ named_at : (candidates : List (List ℕ)) (items : List ℕ) (k n b : ℕ) → k
 named_at candidates items k n b l h =
     Contains-flat_map (λ i. get_or candidates i []) items k 0 b l (n, slice_get_within (get_or candidates (get_or items k 0) []) n b h, get_or_from_slice_get (get_or candidates (get_or items k 0) []) n b b h)
 
-nowhere : Slot
+pub nowhere : Slot
 nowhere = record { row = 0; index = 0 }
 
-may_have_at : (stash bins : ℕ) (candidates : List (List ℕ)) (slots : List Slot) (i : ℕ) → AllZip (MayHave stash bins) candidates slots → i < length candidates → MayHave stash bins (get_or candidates i []) (get_or slots i nowhere)
+pub may_have_at : (stash bins : ℕ) (candidates : List (List ℕ)) (slots : List Slot) (i : ℕ) → AllZip (MayHave stash bins) candidates slots → i < length candidates → MayHave stash bins (get_or candidates i []) (get_or slots i nowhere)
 may_have_at stash bins [] slots i each l = absurd (omega arith)
 may_have_at stash bins (x ∷ xs) [] i each l = absurd each
 may_have_at stash bins (x ∷ xs) (s ∷ ss) zero each l = each.0

@@ -7,6 +7,7 @@ pub mod Lists
 pub mod Placing
 pub mod Meeting
 pub mod KeyStream
+pub mod CodeBytes
 pub mod Clean
 pub mod ColumnSets
 pub mod Dealing

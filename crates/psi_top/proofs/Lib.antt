@@ -1,5 +1,4 @@
 pub mod Answered
-pub mod CodeBytes
 pub mod Compared
 pub mod Counted
 pub mod DealLaws

@@ -16,7 +16,7 @@ use Rattle.psi_spec.specs.Placement.{Slot}
 use Rattle.psi_spec.proofs.Clean.{columns_are_clean}
 use Rattle.psi_spec.proofs.ColumnSets.{opens_rows, bit_of-lt, get_or-opened_columns, length-opened_columns}
 use Rattle.psi_spec.proofs.Placing.{AreApart, length-row_word, row_word-more, get_or-placed_of, length-placed_of, slots_of-placed_of, length-stash_slots, get_or-stash_slots, stash_slots_apart}
-use Rattle.psi_top.proofs.CodeBytes.{AreBytes-row_word}
+use Rattle.psi_spec.proofs.CodeBytes.{AreBytes-row_word}
 use Rattle.psi_top.specs.Local.{local_slots}
 use Rattle.psi_top.specs.Session.{HasRows, receiver_sets, stash_placed, stash_setup}
 use Rattle.psi_top.specs.declared.session.SessionRows.{SessionRows}

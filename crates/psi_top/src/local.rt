@@ -13,16 +13,16 @@ use crate::session::exchange;
 use crate::status::{Outcome, Status, outcome_of};
 use crate::steps::{print_text, read_items};
 use crate::values::{number_of_tag_length, seed_of, session_of};
-use psi_base::{USUAL_STASH, Words, World};
+use psi_base::{NoMemory, USUAL_STASH, Words, World};
 use psi_deal::{ReceiverDeal, SenderDeal, deal};
 use psi_items::Items;
-use std::alloc::{AllocError, Global};
+use std::alloc::Global;
 
 /// The most items of the receiver.
 const MOST_ITEMS: u32 = 4;
 
 // The pair of deals that the words name.
-fn local_deals(alloc: Global, words: &Words) -> Result<(ReceiverDeal, SenderDeal), AllocError>
+fn local_deals(alloc: Global, words: &Words) -> Result<(ReceiverDeal, SenderDeal), NoMemory>
     requires fit { bad_word words.now ≡ None }
     requires named { command_of words.now ≡ Some Command.Local }
     ensures receiver { IfOk result (λ deals. deals.0 ≡ local_receiver words.now) }
@@ -34,21 +34,21 @@ fn local_deals(alloc: Global, words: &Words) -> Result<(ReceiverDeal, SenderDeal
     let session = session_of(word_at(words, 4));
     let tag_length = number_of_tag_length(word_at(words, 5));
     // A tag length that is in form is never refused: only memory can be wanting.
-    deal(alloc, &seed, session, tag_length, USUAL_STASH).map_err(|_| AllocError)
+    deal(alloc, &seed, session, tag_length, USUAL_STASH).map_err(|_| NoMemory)
 }
 
 // What is printed for these items.
-fn local_text(alloc: Global, words: &Words, x: &Items, y: &Items) -> Result<Vec<u8>, AllocError>
+fn local_text(alloc: Global, words: &Words, x: &Items, y: &Items) -> Result<Vec<u8>, NoMemory>
     requires fit { bad_word words.now ≡ None }
     requires named { command_of words.now ≡ Some Command.Local }
     requires few { length x.now ≤ most_local }
     ensures { IfOk result (λ text. text.items ≡ local_text words.now x.now y.now) }
 {
     let (receiver, sender) = local_deals(alloc, words)?;
-    let rows = exchange(alloc, &receiver, &sender, x).map_err(|_| AllocError)?;
+    let rows = exchange(alloc, &receiver, &sender, x)?;
     let mut compared = comparisons(alloc, &receiver, &rows, x.len())?;
     compare_items(&sender, y, &mut compared);
-    met_text(alloc, &compared, x)
+    Ok(met_text(alloc, &compared, x)?)
 }
 
 // Refuses a set of too many items.

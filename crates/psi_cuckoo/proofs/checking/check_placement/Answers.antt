@@ -8,7 +8,8 @@ use Rattle.psi_cuckoo.specs.Refusal.{first_fault}
 use Rattle.psi_cuckoo.specs.declared.errors.BadSlots.{BadSlots}
 use Rattle.psi_cuckoo.specs.declared.errors.BadSlots.TheVariants.{NoMemory}
 use Rattle.psi_cuckoo.specs.declared.placement.Placement.{Placement}
-use Rattle.psi_cuckoo.proofs.Judging.{first_is_none, length_zip, only_memory, placement_right}
+use Rattle.psi_spec.proofs.Crowding.{length_zip}
+use Rattle.psi_cuckoo.proofs.Judging.{first_is_none, only_memory, placement_right}
 use Rattle.psi_cuckoo.proofs.Placed.{name_bins, placement_from_seats}
 use Rattle.psi_cuckoo.proofs.checking.check_placement.Goals as goal
 

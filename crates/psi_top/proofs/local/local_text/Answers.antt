@@ -1,4 +1,4 @@
-use Rattle.std.proofs.Common.{◌≡◌, ◌∙◌, ◌≤◌, List, ℕ, ap, length, map, rules, subst, IfOk}
+use Rattle.std.proofs.Common.{◌≡◌, ◌∙◌, ◌≤◌, List, ℕ, ap, length, map, rules}
 use Rattle.std.proofs.lemmas.List.{length-map}
 use Rattle.psi_spec.specs.Limits.{bins_for, rows_for, usual_stash}
 use Rattle.psi_top.specs.Comparing.{after_items, comparisons_from}
@@ -30,4 +30,4 @@ returns c =
     let compared = after_loan sender ys c.in_ok-compared.compared.len c.in_ok-compared.compared.items c.deref_mut.result.now c.compare_items.new.comparisons c.deref.result.now c.deref_mut.ensures.value c.deref_mut.ensures.len c.compare_items.ensures c.deref.ensures.value in
     let made = ap (map (after_items sender ys)) (c.in_ok-compared.ensures ∙ ap (λ (count : ℕ). comparisons_from receiver rows (bins_for count) count) c.len.ensures.len) in
     let same = met_is_shown c.args.words.now xs ys receiver sender rows c.deref.result.now c.in_ok-receiver.ensures.receiver c.in_ok-receiver.ensures.sender c.in_ok-receiver.ensures.pair has few (compared ∙ made) in
-    subst (λ (printed : List ℕ). IfOk c.met_text.result (λ text. text.items ≡ printed)) same c.met_text.ensures
+    c.in_ok-met_text.ensures ∙ same

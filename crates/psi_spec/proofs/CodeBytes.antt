@@ -35,7 +35,8 @@ AreBytes-to_be_bytes n (suc (suc (suc (suc i)))) = omega arith
 AreBytes-digest_bytes : (h : List ℕ) (n : ℕ) → AreBytes (digest_bytes h n)
 unfolding digest_bytes
 AreBytes-digest_bytes h zero = λ i. omega arith
-AreBytes-digest_bytes h (suc n) = AreBytes-append (digest_bytes h n) (to_be_bytes w32 (get_or h n 0)) (AreBytes-digest_bytes h n) (AreBytes-to_be_bytes (get_or h n 0))
+AreBytes-digest_bytes h (suc n) =
+    AreBytes-append (digest_bytes h n) (to_be_bytes w32 (get_or h n 0)) (AreBytes-digest_bytes h n) (AreBytes-to_be_bytes (get_or h n 0))
 
 AreBytes-sha256 : (message : List ℕ) → AreBytes (sha256 message)
 unfolding sha256
@@ -45,12 +46,14 @@ AreBytes-code : (key : List ℕ) (index : ℕ) (digest : List ℕ) → AreBytes 
 unfolding code
 AreBytes-code key index digest =
     AreBytes-append (code_half key index 0 digest) (code_half key index 1 digest)
-    (AreBytes-sha256 (codes "psi-code" ++ key ++ index ∷ 0 ∷ [] ++ digest)) (AreBytes-sha256 (codes "psi-code" ++ key ++ index ∷ 1 ∷ [] ++ digest))
+    (AreBytes-sha256 (codes "psi-code" ++ key ++ index ∷ 0 ∷ [] ++ digest)) (AreBytes-sha256 (codes "psi-code" ++ key
+        ++ index ∷ 1 ∷ [] ++ digest))
 
 pub AreBytes-row_word : (key : List ℕ) (placed : List Placed) (row : ℕ) → AreBytes (row_word key placed row)
 AreBytes-row_word key [] row = AreBytes-zero_word
 AreBytes-row_word key (p ∷ placed) row = by_case (nat_eq p.slot.row row) (AreBytes-row_word key placed row)
   where
-    by_case : (b : Bool) → AreBytes (row_word key placed row) → AreBytes (cond b (code key p.slot.index (item_digest p.item)) (row_word key placed row))
+    by_case : (b : Bool) → AreBytes (row_word key placed row)
+        → AreBytes (cond b (code key p.slot.index (item_digest p.item)) (row_word key placed row))
     by_case true later = AreBytes-code key p.slot.index (item_digest p.item)
     by_case false later = later
