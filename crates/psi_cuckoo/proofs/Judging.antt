@@ -1,6 +1,6 @@
 -- Slots that are judged.
-use Rattle.std.proofs.Common.{◌≡◌, ◌≢◌, ◌+◌, ◌-◌, ◌<◌, ◌≤◌, ◌==◌, ◌&&◌, ℕ, zero, suc, Bool, true, false, cond, List, [], ◌∷◌, length, map, take, get_or, Some, None, nat_eq, nat_lt, nat_le, is_some, not, slice_get, refl, sym, ap, ◌∙◌, subst, arith, ⊎_elim, inl, inr, eq-eqb}
-use Rattle.std.specs.List.{AllZip, filter_map, list_any, range_with_len}
+use Rattle.std.proofs.Common.{◌≡◌, ◌≢◌, ◌+◌, ◌-◌, ◌<◌, ◌≤◌, ◌==◌, ◌&&◌, ℕ, zero, suc, Bool, true, false, cond, List, [], length, map, take, get_or, Some, None, nat_eq, nat_lt, nat_le, is_some, not, slice_get, refl, sym, ap, ◌∙◌, subst, arith, ⊎_elim, inl, inr, eq-eqb}
+use Rattle.std.specs.List.{filter_map, list_any, range_with_len}
 use Rattle.std.specs.Option.{option_map_or}
 use Rattle.std.specs.declared.option.Option.{Option}
 use Rattle.std.proofs.lemmas.Bool.{and_from, and_parts, eqb-true, le-leb, leb-true, lt-ltb, ltb-true, true≢false, false_from_ne_true, ne_eqb}
@@ -9,7 +9,7 @@ use Rattle.std.proofs.lemmas.List.Folds.{list_any_at, list_any_none}
 use Rattle.std.proofs.lemmas.Option.{none-some, slice_get_within}
 use Rattle.std.proofs.lemmas.Map.Keys.{apart_from_distinct}
 use Rattle.psi_spec.specs.Placement.{IsPlacement, MayHave, Slot}
-use Rattle.psi_spec.proofs.Crowding.{length_zip, may_have_at, nowhere}
+use Rattle.psi_spec.proofs.Crowding.{may_have_at, nowhere}
 use Rattle.psi_cuckoo.specs.Table.{AreOccupants, NameBins, no_slot, occupant_at, slot_at, slot_of}
 use Rattle.psi_cuckoo.specs.Refusal.{fault_of, first_fault, may_have}
 use Rattle.psi_cuckoo.specs.declared.slot.Slot.{Slot as RowSlot}

@@ -1,5 +1,5 @@
 -- What a finished search reached is a crowded list.
-use Rattle.std.proofs.Common.{◌≡◌, ◌+◌, ◌-◌, ◌<◌, ◌≤◌, ◌||◌, ℕ, Bool, true, false, cond, List, [], ◌∷◌, ◌++◌, zero, suc, Some, length, map, get_or, refl, sym, ap, ◌∙◌, subst, arith, ⊎_elim, eq-eqb}
+use Rattle.std.proofs.Common.{◌≡◌, ◌+◌, ◌-◌, ◌<◌, ◌≤◌, ◌||◌, ℕ, Bool, true, false, cond, List, [], ◌∷◌, ◌++◌, Some, length, map, get_or, refl, sym, ap, ◌∙◌, subst, arith, ⊎_elim, eq-eqb}
 use Rattle.std.specs.Prelude.{slice_get, nat_eq, Contains}
 use Rattle.std.specs.List.{IsDistinct, flat_map, range_with_len}
 use Rattle.std.specs.Set.{unique_keys, is_member, distinct_count}
@@ -14,6 +14,8 @@ use Rattle.std.proofs.lemmas.List.FromFn.{length-range_with_len, get_or-range_wi
 use Rattle.std.proofs.lemmas.Map.Keys.{IsDistinct-from_apart, below_from_sorted, sorted_from_strictly_increasing}
 use Rattle.std.proofs.lemmas.Map.Made.{is_member-Decides, length-from_keys, distinct_count-from_IsDistinct}
 use Rattle.psi_spec.specs.CrowdedLists.{IsCrowded, named_bins, touched_by}
+use Rattle.psi_spec.proofs.Crowding.{Contains-flat_map}
+use Rattle.psi_spec.proofs.Lists.{Contains-from_map, Contains-map, same_test}
 use Rattle.psi_cuckoo.specs.Table.{AreSeated, IsTask, NameBins, Names, slot_at, occupant_at}
 use Rattle.psi_cuckoo.specs.declared.table.Task.{Task}
 use Rattle.psi_cuckoo.specs.declared.table.Table.{Table}
@@ -64,21 +66,11 @@ rise_more visits end items visited r = record {
 
 -- ---- lists and counts
 
-Contains-map : {A : Type 0} (f : ℕ → A) (xs : List ℕ) (x : ℕ) → Contains xs x → Contains (map f xs) (f x)
-Contains-map f xs x h = (h.0, omega (arith, length-map xs f, h.1), get_or-map f xs h.0 x (f x) h.1 ∙ ap f h.2)
-
-Contains-map_from : (f : ℕ → ℕ) (xs : List ℕ) (y : ℕ) → Contains (map f xs) y → (x : ℕ) × Contains xs x × (f x ≡ y)
-Contains-map_from f xs y h =
-    let l : h.0 < length xs = omega (arith, length-map xs f, h.1) in
-    (get_or xs h.0 0, Contains-get_or xs h.0 0 l, sym (get_or-map f xs h.0 0 y l) ∙ h.2)
-
-Contains-flat_map : (f : ℕ → List ℕ) (xs : List ℕ) (x y : ℕ) → Contains xs x → Contains (f x) y → Contains (flat_map f xs) y
-Contains-flat_map f xs x y h here = go f xs h.0 x y h.1 (subst (λ (n : ℕ). Contains (f n) y) (sym h.2) here)
-  where
-    go : (f : ℕ → List ℕ) (xs : List ℕ) (k d y : ℕ) → k < length xs → Contains (f (get_or xs k d)) y → Contains (flat_map f xs) y
-    go f [] k d y l h = absurd (omega arith)
-    go f (x ∷ xs) zero d y l h = Contains-append_left (f x) (flat_map f xs) y h
-    go f (x ∷ xs) (suc k) d y l h = Contains-append_right (f x) (flat_map f xs) y (go f xs k d y (omega arith) h)
+-- what an element gives is among what all of them give
+Contains-flat_map_of : (f : ℕ → List ℕ) (xs : List ℕ) (x y : ℕ) → Contains xs x → Contains (f x) y
+    → Contains (flat_map f xs) y
+Contains-flat_map_of f xs x y h here =
+    Contains-flat_map f xs h.0 x y h.1 (subst (λ (n : ℕ). Contains (f n) y) (sym h.2) here)
 
 Contains-flat_map_from : (f : ℕ → List ℕ) (xs : List ℕ) (y : ℕ) → Contains (flat_map f xs) y → (x : ℕ) × Contains xs x × Contains (f x) y
 Contains-flat_map_from f [] y h = absurd (let l : h.0 < 0 = h.1 in omega arith)
@@ -103,16 +95,11 @@ range_apart start n = IsDistinct-from_apart nat_eq (range_with_len start n) (λ 
     let b = get_or-range_with_len start n j d jn in
     false_from_ne_true _ (λ t. let e : start + i ≡ start + j = sym a ∙ (eqb-true _ _ t ∙ b) in absurd (omega arith)))
 
-same_truth : (a b : Bool) → (a ≡ true → b ≡ true) → (b ≡ true → a ≡ true) → a ≡ b
-same_truth true b p q = sym (p refl)
-same_truth false true p q = q refl
-same_truth false false p q = refl
-
 same_members : (xs ys : List ℕ) → ((q : ℕ) → Contains xs q → Contains ys q) → ((q : ℕ) → Contains ys q → Contains xs q) → (q : ℕ) → is_member nat_eq xs q ≡ is_member nat_eq ys q
 same_members xs ys to back q =
     let a = is_member-Decides unsigned_Decides xs q in
     let b = is_member-Decides unsigned_Decides ys q in
-    same_truth (is_member nat_eq xs q) (is_member nat_eq ys q) (λ t. b.1 (to q (a.0 t))) (λ t. a.1 (back q (b.0 t)))
+    same_test (is_member nat_eq xs q) (is_member nat_eq ys q) (λ t. b.1 (to q (a.0 t))) (λ t. a.1 (back q (b.0 t)))
 
 is_member-append : (xs ys : List ℕ) (q : ℕ) → is_member nat_eq ys q ≡ false → is_member nat_eq (xs ++ ys) q ≡ is_member nat_eq xs q
 is_member-append [] ys q h = h
@@ -207,13 +194,13 @@ module _ (extra bins : ℕ) (candidates : List (List ℕ)) (slots : List Slot) (
         let n : ℕ = (visit_at visits k).index - 1 in
         let among = s.rise.whole parent (s.forest.each p l) (p, l, refl) in
         Contains-append_left (named_bins candidates items) (range_with_len bins extra) (row_of item)
-        (Contains-flat_map (λ i. get_or candidates i []) items parent (row_of item) among
+        (Contains-flat_map_of (λ i. get_or candidates i []) items parent (row_of item) among
         (n, slice_get_within (get_or candidates parent []) n (row_of item) way.1.2, get_or_from_slice_get (get_or candidates parent []) n (row_of item) (row_of item) way.1.2)))
         led
 
     in_wanted : (q : ℕ) → Contains rows q → Contains wanted q
     unfolding rows
-    in_wanted q h = let from = Contains-map_from row_of items q h in subst (Contains wanted) from.2 (led_in from.0 from.1)
+    in_wanted q h = let from = Contains-from_map row_of items q h in subst (Contains wanted) from.2 (led_in from.0 from.1)
 
     rows_apart : IsDistinct nat_eq rows
     unfolding rows row_of

@@ -1,5 +1,5 @@
 -- The items that a set's keys hold.
-use Rattle.std.proofs.Common.{◌≡◌, ℕ, ◌+◌, ◌<◌, List, [], ◌∷◌, ◌++◌, map, Bool, ◌||◌, ◌&&◌, nat_eq, true, false, not, cond, Some, None, nat_lt, length, refl, ap, ap₂, sym, subst, ◌↔◌, ◌∙◌, Vec, Global, get_or, slice_get, position, Contains, arith}
+use Rattle.std.proofs.Common.{◌≡◌, ℕ, ◌+◌, ◌<◌, List, [], ◌∷◌, ◌++◌, map, Bool, ◌&&◌, nat_eq, true, false, not, cond, Some, None, nat_lt, length, refl, ap, ap₂, sym, subst, ◌↔◌, ◌∙◌, Vec, Global, get_or, slice_get, position, Contains, arith}
 use Rattle.std.specs.List.{prefix_len, list_any, IsDistinct}
 use Rattle.std.specs.Str.{bytes_eq}
 use Rattle.std.proofs.lemmas.List.{length-map, map-append, length_push, get_or-map}
@@ -12,6 +12,7 @@ use Rattle.std.proofs.lemmas.Option.{slice_get_within, get_or_from_slice_get}
 use Rattle.std.proofs.lemmas.Bool.{le-ltb, ne_eqb, eq-eqb}
 use Rattle.psi_spec.specs.Items.{is_long, is_too_many, fault_of_item}
 use Rattle.psi_spec.specs.Limits.{limit_items, line_limit}
+use Rattle.psi_spec.proofs.Lists.{list_any-map}
 use Rattle.psi_items.specs.Members.{IsItem, AreItems}
 use Rattle.psi_items.specs.Reading.{with_item}
 
@@ -26,11 +27,6 @@ prefix_len-map f p (x ∷ xs) = ap (λ n. cond (p (f x)) (1 + n) 0) (prefix_len-
 -- the first place that passes, in the list of what f gives
 pub position-map : {A B : Type 0} (f : A → B) (p : B → Bool) (xs : List A) → position (λ x. p (f x)) xs ≡ position p (map f xs)
 position-map f p xs = ap₂ (λ (n m : ℕ). cond (nat_lt n m) (Some n) None) (prefix_len-map f (λ y. not (p y)) xs) (sym (length-map xs f))
-
--- whether some element passes, in the list of what f gives
-pub list_any-map : {A B : Type 0} (f : A → B) (p : B → Bool) (xs : List A) → list_any (λ x. p (f x)) xs ≡ list_any p (map f xs)
-list_any-map f p [] = refl
-list_any-map f p (x ∷ xs) = ap (λ b. p (f x) || b) (list_any-map f p xs)
 
 -- no items
 pub AreItems-nil : AreItems []
@@ -63,7 +59,7 @@ Contains-from_test items item found test = (
 
 -- a test of the items by a test of the keys
 pub list_any-keys : (keys : List (Vec ℕ Global)) (items : List (List ℕ)) (item : List ℕ) → items_in keys ≡ items → list_any (λ (v : Vec ℕ Global). bytes_eq item v.items) keys ≡ list_any (bytes_eq item) items
-list_any-keys keys items item view = list_any-map (λ (v : Vec ℕ Global). v.items) (bytes_eq item) keys ∙ ap (list_any (bytes_eq item)) view
+list_any-keys keys items item view = sym (list_any-map (bytes_eq item) (λ (v : Vec ℕ Global). v.items) keys) ∙ ap (list_any (bytes_eq item)) view
 
 -- a place among the items by a place among the keys
 pub position-keys : (keys : List (Vec ℕ Global)) (items : List (List ℕ)) (item : List ℕ) → items_in keys ≡ items → position (λ (v : Vec ℕ Global). bytes_eq item v.items) keys ≡ position (bytes_eq item) items
@@ -105,7 +101,7 @@ pub items_in-inserted : (keys : List (Vec ℕ Global)) (v : Vec ℕ Global) (ite
 items_in-inserted keys v item same absent =
     let bytes : Vec ℕ Global → List ℕ = λ w. w.items in
     let new : list_any (λ (w : Vec ℕ Global). bytes_eq v.items w.items) keys ≡ false =
-    list_any-map bytes (bytes_eq v.items) keys ∙ ap (λ x. list_any (bytes_eq x) (items_in keys)) same ∙ absent in
+    sym (list_any-map (bytes_eq v.items) bytes keys) ∙ ap (λ x. list_any (bytes_eq x) (items_in keys)) same ∙ absent in
     ap (λ (b : Bool). items_in (cond b keys (keys ++ v ∷ []))) new ∙ map-append bytes keys (v ∷ []) ∙ ap (λ x. items_in keys ++ x ∷ []) same
 
 -- as many items as keys

@@ -47,7 +47,7 @@ unfolding code
 AreBytes-code key index digest =
     AreBytes-append (code_half key index 0 digest) (code_half key index 1 digest)
     (AreBytes-sha256 (codes "psi-code" ++ key ++ index ∷ 0 ∷ [] ++ digest)) (AreBytes-sha256 (codes "psi-code" ++ key
-        ++ index ∷ 1 ∷ [] ++ digest))
+    ++ index ∷ 1 ∷ [] ++ digest))
 
 pub AreBytes-row_word : (key : List ℕ) (placed : List Placed) (row : ℕ) → AreBytes (row_word key placed row)
 AreBytes-row_word key [] row = AreBytes-zero_word

@@ -1,5 +1,5 @@
 -- Whether a placed item meets some item of the sender, as a program compares it: padded tags, and lists of them for each index and row.
-use Rattle.std.proofs.Common.{◌≡◌, ◌<◌, ℕ, Bool, true, false, cond, List, [], ◌∷◌, length, map, nat_eq, ◌||◌, refl, sym, ap, ◌∙◌, arith, eq-eqb}
+use Rattle.std.proofs.Common.{◌≡◌, ◌<◌, ℕ, Bool, true, false, cond, List, length, map, nat_eq, sym, ap, ◌∙◌, arith, eq-eqb}
 use Rattle.std.specs.List.{list_any}
 use Rattle.std.specs.Str.{bytes_eq}
 use Rattle.std.proofs.lemmas.Bool.{ne_eqb}
@@ -9,6 +9,7 @@ use Rattle.psi_spec.specs.Columns.{row_of}
 use Rattle.psi_spec.specs.Placement.{Slot}
 use Rattle.psi_spec.specs.Meeting.{Setup, IsSetup, row_word, own_tag, peer_tag, peer_row, meets}
 use Rattle.psi_spec.proofs.Xor.{opened, length-xor, length-both}
+use Rattle.psi_spec.proofs.Lists.{list_any-map, list_any_agree}
 use Rattle.psi_spec.proofs.Packing.{length-row_of}
 use Rattle.psi_spec.proofs.Sizes.{length-code}
 use Rattle.psi_spec.proofs.Tags.{bytes_eq-padded_tag}
@@ -59,14 +60,6 @@ meets_by_padded_tags s slot y =
     sym (bytes_eq-padded_tag s.key s.tag_length slot.row row (row_of s.columns slot.row) (peer_word s slot.index row y))
 
 -- ---- lists of tags
-
-list_any-map : {A B : Type 0} (test : B → Bool) (f : A → B) (xs : List A) → list_any test (map f xs) ≡ list_any (λ x. test (f x)) xs
-list_any-map test f [] = refl
-list_any-map test f (x ∷ xs) = ap (λ (b : Bool). test (f x) || b) (list_any-map test f xs)
-
-list_any_agree : {A : Type 0} (p q : A → Bool) (xs : List A) → ((x : A) → p x ≡ q x) → list_any p xs ≡ list_any q xs
-list_any_agree p q [] same = refl
-list_any_agree p q (x ∷ xs) same = let t = same x in let ts : list_any p xs ≡ list_any q xs = list_any_agree p q xs same in cc
 
 -- the padded peer tags of the sender's items at an index from 1 to 3, each at its own bin
 abbrev pub bin_tags : Setup → ℕ → List (List ℕ) → List (List ℕ)

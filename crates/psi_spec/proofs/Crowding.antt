@@ -58,7 +58,7 @@ item_rows_apart slots items apart rising within =
     let ej : get_or (item_rows slots items) j d ≡ get_or (rows_of slots) (get_or items j 0) 0 = get_or-map (λ i. get_or (rows_of slots) i 0) items j 0 d n in
     rw (ei, ej) r)
 
-Contains-flat_map : (f : ℕ → List ℕ) (xs : List ℕ) (k d b : ℕ) → k < length xs → Contains (f (get_or xs k d)) b → Contains (flat_map f xs) b
+pub Contains-flat_map : (f : ℕ → List ℕ) (xs : List ℕ) (k d b : ℕ) → k < length xs → Contains (f (get_or xs k d)) b → Contains (flat_map f xs) b
 Contains-flat_map f [] k d b l h = absurd (omega arith)
 Contains-flat_map f (x ∷ xs) zero d b l h = Contains-append_left (f x) (flat_map f xs) b h
 Contains-flat_map f (x ∷ xs) (suc k) d b l h = Contains-append_right (f x) (flat_map f xs) b (Contains-flat_map f xs k d b (omega arith) h)

@@ -1,5 +1,5 @@
 -- Elements of mapped and filtered lists, and the first one that passes a test.
-use Rattle.std.proofs.Common.{◌≡◌, suc, zero, Bool, true, false, cond, ◌||◌, List, [], ◌∷◌, map, filter, find, Contains, Some, refl, ap, ◌∙◌, subst, arith}
+use Rattle.std.proofs.Common.{◌≡◌, suc, zero, Bool, true, false, cond, ◌||◌, List, [], ◌∷◌, map, filter, find, Contains, Some, refl, sym, ap, ◌∙◌, subst, arith}
 use Rattle.std.specs.List.{list_any}
 use Rattle.std.proofs.lemmas.Bool.{false≢true}
 
@@ -66,3 +66,21 @@ module _ {A : Type 0} where
   pub find-from_list_any : (test : A → Bool) (xs : List A) → list_any test xs ≡ true → (x : A) × (find test xs ≡ Some x) × Contains xs x × (test x ≡ true)
   find-from_list_any test [] h = absurd (false≢true h)
   find-from_list_any test (y ∷ xs) h = find_step test y xs (test y) refl (find-from_list_any test xs) h
+
+-- two tests of which each follows from the other are the same
+pub same_test : (a b : Bool) → (a ≡ true → b ≡ true) → (b ≡ true → a ≡ true) → a ≡ b
+same_test true b to from = sym (to refl)
+same_test false true to from = from refl
+same_test false false to from = refl
+
+-- whether an element of a list passes a test
+pub list_any-map : {A B : Type 0} (test : B → Bool) (f : A → B) (xs : List A)
+    → list_any test (map f xs) ≡ list_any (λ x. test (f x)) xs
+list_any-map test f [] = refl
+list_any-map test f (x ∷ xs) = ap (λ (b : Bool). test (f x) || b) (list_any-map test f xs)
+
+pub list_any_agree : {A : Type 0} (p q : A → Bool) (xs : List A) → ((x : A) → p x ≡ q x)
+    → list_any p xs ≡ list_any q xs
+list_any_agree p q [] same = refl
+list_any_agree p q (x ∷ xs) same =
+    let t = same x in let ts : list_any p xs ≡ list_any q xs = list_any_agree p q xs same in cc

@@ -1,5 +1,5 @@
 -- What the comparisons of `local` met is what is shown.
-use Rattle.std.proofs.Common.{◌≡◌, ◌+◌, ◌<◌, ◌≤◌, ℕ, zero, suc, Bool, List, [], ◌∷◌, length, map, get_or, refl, sym, ap, ◌∙◌, arith}
+use Rattle.std.proofs.Common.{◌≡◌, ◌+◌, ◌<◌, ◌≤◌, ℕ, zero, suc, Bool, List, [], length, map, get_or, refl, sym, ap, ◌∙◌, arith}
 use Rattle.std.specs.List.{list_any}
 use Rattle.std.specs.Str.{bytes_eq}
 use Rattle.psi_spec.specs.Limits.{bins_for, rows_for, usual_stash}
@@ -10,6 +10,7 @@ use Rattle.psi_spec.specs.Deals.{ReceiverDeal, SenderDeal, ArePair}
 use Rattle.psi_spec.specs.Placement.{Slot, stash_slots}
 use Rattle.psi_spec.specs.Meeting.{Setup, row_word, meets, shown}
 use Rattle.psi_spec.specs.Texts.{lines_text}
+use Rattle.psi_spec.proofs.Lists.{list_any_agree}
 use Rattle.psi_spec.proofs.Placing.{length-stash_slots}
 use Rattle.psi_spec.proofs.Comparing.{peer_word_opened, meets_by_padded_tags}
 use Rattle.psi_spec.proofs.Printing.{flagged, flags_of, shown_by_flags}
@@ -19,10 +20,6 @@ use Rattle.psi_top.specs.Session.{HasRows, stash_setup}
 use Rattle.psi_top.specs.declared.session.SessionRows.{SessionRows}
 use Rattle.psi_top.specs.declared.comparing.Comparison.{Comparison}
 use Rattle.psi_top.proofs.Compared.{met_items_flagged}
-
-list_any_agree : {A : Type 0} (p q : A → Bool) (xs : List A) → ((x : A) → p x ≡ q x) → list_any p xs ≡ list_any q xs
-list_any_agree p q [] same = refl
-list_any_agree p q (x ∷ xs) same = let t = same x in let ts = list_any_agree p q xs same in cc
 
 module _ (receiver : ReceiverDeal) (sender : SenderDeal) (xs ys : List (List ℕ)) (rows : SessionRows) (pair : ArePair receiver sender)
     (has : HasRows (stash_setup receiver sender xs) (rows_for usual_stash (length xs)) rows) where

@@ -13,6 +13,7 @@ use Rattle.hex.specs.Hex.{decode_sized, is_hex_digit}
 use Rattle.hex.specs.declared.error.FromHexError.{FromHexError}
 use Rattle.hex.proofs.HexLemmas.{IsOk-decode_sized, decode_sized-twice}
 use Rattle.psi_spec.specs.Words.{are_digits, are_sizes, is_stroke, is_seed, is_session, is_stash_count, is_tag_length, number_of, seed_of}
+use Rattle.psi_spec.proofs.Lists.{same_test}
 
 -- two spellings of one test
 list_all-digits : (word : List ℕ) → list_all is_ascii_digit word ≡ all_ascii_digits word
@@ -78,11 +79,6 @@ stash_parts word e =
     let parts = both_true (are_digits 2 word) (nat_le (number_of word) 16) e in
     let high : nat_le (number_of word) 16 ≡ true = parts.1 in
     (has_digits 2 word parts.0, grind (arith, nat_tests))
-
-same_test : (a b : Bool) → (a ≡ true → b ≡ true) → (b ≡ true → a ≡ true) → a ≡ b
-same_test true b to from = sym (to refl)
-same_test false true to from = from refl
-same_test false false to from = refl
 
 -- hexadecimal digits are read exactly where a word has the form of a seed
 pub decoded_sized : (word : List ℕ) → is_ok (decode_sized word 32) ≡ is_seed word

@@ -1,4 +1,4 @@
-use Rattle.std.proofs.Common.{◌≡◌, ◌∙◌, ◌≤◌, List, ℕ, ap, length, map, rules}
+use Rattle.std.proofs.Common.{◌∙◌, ◌≤◌, ℕ, ap, length, map, rules}
 use Rattle.std.proofs.lemmas.List.{length-map}
 use Rattle.psi_spec.specs.Limits.{bins_for, rows_for, usual_stash}
 use Rattle.psi_top.specs.Comparing.{after_items, comparisons_from}
