@@ -1,6 +1,9 @@
 // The deal files that `deal` writes, its words, and what stands where a write fails.
+ghost use Rattle.std.specs.Prelude.{◌≤◌, length};
+ghost use Rattle.psi_spec.specs.Limits.{file_limit};
+
 use crate::runs::{DONE, ZERO_SEED as Z, expect_run, words_of};
-use psi_base::{FaultKind, MemWorld, QuietMem};
+use psi_base::{FILE_LIMIT, FaultKind, MemWorld, QuietMem};
 use psi_deal::{deals_differ, read_receiver, read_sender, write_receiver, write_sender};
 use psi_top::{Status, run};
 use std::process::Abort;
@@ -17,11 +20,13 @@ const RECEIVER_FRONT: &[u8] = &[
     0x1a, 0xa8, 0x36, 0xef, 0xcc, 0x8b, 0x77, 0x0d, 0xc7, 16, 4,
 ];
 
-// The content of a file that is there, and else no bytes.
-fn content<'a>(world: &'a MemWorld, name: &str) -> &'a [u8] {
+// The content of a file that is there and can be read, and else no bytes.
+fn content<'a>(world: &'a MemWorld, name: &str) -> &'a [u8]
+    ensures { length result.now ≤ file_limit }
+{
     match world.file(name) {
-        Some(bytes) => bytes,
-        None => &[],
+        Some(bytes) if bytes.len() <= FILE_LIMIT as usize => bytes,
+        _ => &[],
     }
 }
 
@@ -33,7 +38,7 @@ fn deal_files_are_read_again(rt: HostRuntime) -> Result<(), Fail> {
     let sender_file = content(&world, "s");
     assert_eq!(rt; receiver_file.len(), 32_848);
     assert_eq!(rt; sender_file.len(), 16_528);
-    assert_eq!(rt; &receiver_file[..48], RECEIVER_FRONT);
+    assert!(rt; receiver_file.starts_with(RECEIVER_FRONT));
     let receiver = read_receiver(rt.alloc(), receiver_file)?;
     let sender = read_sender(rt.alloc(), sender_file)?;
     assert_eq!(rt; deals_differ(&receiver, &sender), None);
