@@ -9,7 +9,7 @@ use Rattle.psi_spec.specs.Formulas.{item_digest, code_half, code}
 use Rattle.psi_spec.specs.Meeting.{Placed, row_word}
 use Rattle.psi_spec.proofs.Packing.{AreBytes}
 
-AreBytes-append : (a b : List ℕ) → AreBytes a → AreBytes b → AreBytes (a ++ b)
+pub AreBytes-append : (a b : List ℕ) → AreBytes a → AreBytes b → AreBytes (a ++ b)
 AreBytes-append a b ha hb i =
     ⊎_elim
     (λ (l : i < length a). subst (λ (x : ℕ). x < 2 ^ 8) (sym (get_or_append_left a b 0 i l)) (ha i))

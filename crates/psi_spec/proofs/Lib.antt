@@ -16,3 +16,16 @@ pub mod Comparing
 pub mod Printing
 pub mod Crowding
 pub mod Frames
+pub mod Rising
+pub mod Reordering
+pub mod StreamSizes
+pub mod Telling
+pub mod DealtColumns
+pub mod RowWords
+pub mod Forming
+pub mod StreamSteps
+pub mod Padding
+pub mod Opening
+pub mod Finding
+mod Examples
+pub mod Records

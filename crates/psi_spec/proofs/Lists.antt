@@ -1,6 +1,7 @@
--- Elements of mapped and filtered lists, and the first one that passes a test.
-use Rattle.std.proofs.Common.{◌≡◌, suc, zero, Bool, true, false, cond, ◌||◌, List, [], ◌∷◌, map, filter, find, Contains, Some, refl, sym, ap, ◌∙◌, subst, arith}
+-- Elements of mapped and filtered lists, the first one that passes a test, and operators on two lists.
+use Rattle.std.proofs.Common.{◌≡◌, suc, zero, Bool, true, false, cond, ◌||◌, List, [], ◌∷◌, ◌++◌, length, map, filter, find, Contains, Some, refl, sym, ap, ◌∙◌, subst, arith}
 use Rattle.std.specs.List.{list_any}
+use Rattle.std.specs.Simd.Lanes.{zip2}
 use Rattle.std.proofs.lemmas.Bool.{false≢true}
 
 pub Contains-here : {A : Type 0} (x : A) (xs : List A) → Contains (x ∷ xs) x
@@ -84,3 +85,21 @@ pub list_any_agree : {A : Type 0} (p q : A → Bool) (xs : List A) → ((x : A) 
 list_any_agree p q [] same = refl
 list_any_agree p q (x ∷ xs) same =
     let t = same x in let ts : list_any p xs ≡ list_any q xs = list_any_agree p q xs same in cc
+
+-- an operator on two lists, part by part
+pub zip2-append : {A B C : Type 0} (f : A → B → C) (xs us : List A) (ys vs : List B) → length xs ≡ length ys
+    → zip2 f (xs ++ us) (ys ++ vs) ≡ zip2 f xs ys ++ zip2 f us vs
+zip2-append f [] us [] vs same = refl
+zip2-append f [] us (y ∷ ys) vs same = absurd (omega arith)
+zip2-append f (x ∷ xs) us [] vs same = absurd (omega arith)
+zip2-append f (x ∷ xs) us (y ∷ ys) vs same = ap (λ zs. f x y ∷ zs) (zip2-append f xs us ys vs (omega arith))
+
+-- two tests that agree on the elements keep the same ones
+pub filter_agree : {A : Type 0} (p q : A → Bool) (xs : List A) → ((x : A) → Contains xs x → p x ≡ q x)
+    → filter p xs ≡ filter q xs
+filter_agree p q [] same = refl
+filter_agree {A = A} p q (x ∷ xs) same =
+    let here = same x (Contains-here x xs) in
+    let rest : filter p xs ≡ filter q xs = filter_agree p q xs (λ y h. same y (Contains-later x xs y h)) in
+    ap (λ (b : Bool). cond b (x ∷ filter p xs) (filter p xs)) here
+    ∙ ap (λ (ys : List A). cond (q x) (x ∷ ys) ys) rest

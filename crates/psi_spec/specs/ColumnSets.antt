@@ -2,11 +2,17 @@
 use Rattle.std.specs.Prelude.{◌+◌, ℕ, ◌==◌, List, [], ◌∷◌, if◌then◌else◌}
 use Rattle.psi_spec.specs.Bits.{bit_of, xor}
 use Rattle.psi_spec.specs.Columns.{row_of}
+use Rattle.psi_spec.specs.Matrices.{IsColumnSet}
 
 -- the two column sets that a receiver's seeds make: of two columns with one number the sender has one
 pub record ColumnSets : Type 0 where
   pub zeros : List (List ℕ)
   pub ones : List (List ℕ)
+
+-- both are sets of clean columns of so many rows
+pub record AreColumnSets (rows : ℕ) (sets : ColumnSets) : Type 0 where
+  pub zeros : IsColumnSet rows sets.zeros
+  pub ones : IsColumnSet rows sets.ones
 
 -- ---- what the receiver sends
 

@@ -11,6 +11,13 @@ pub mod Placement
 pub mod CrowdedLists
 pub mod Meeting
 pub mod Frames
+pub mod Rising
+pub mod TagLists
+pub mod Streams
+pub mod Hits
+pub mod Sessions
+pub mod Records
 pub mod Texts
 pub mod Words
 pub mod Laws
+pub mod SessionLaws

@@ -42,6 +42,11 @@ pub record IsColumn (rows : ℕ) (column : List ℕ) : Type 0 where
   pub bytes : (i : ℕ) → slice_index column i < 2 ^ 8
   pub padding : IsClean rows column
 
+-- 512 clean columns of so many rows
+pub record IsColumnSet (rows : ℕ) (columns : List (List ℕ)) : Type 0 where
+  pub count : length columns ≡ 512
+  pub each : All (IsColumn rows) columns
+
 -- a matrix is clean where its columns are
 abbrev pub IsCleanMatrix : Matrix → Type 0
 IsCleanMatrix m = (c : ℕ) → c < 512 → IsClean m.rows (column_of m c)

@@ -15,6 +15,20 @@ ghost use Rattle.psi_spec.specs.Laws.{
   StashShowsCommon,
   CrowdedExcludesPlacement,
 };
+ghost use Rattle.psi_spec.specs.SessionLaws.{
+  OrderIsHidden,
+  SessionsHideOrder,
+  OpenedColumnsAnswer,
+  ReceiverStreamsAreWellFormed,
+  SenderStreamsAreWellFormed,
+  ReceiverStreamsTell,
+  SenderStreamsTell,
+  ReceiverStreamsHaveSizes,
+  SenderStreamsHaveSizes,
+  SessionsAreWoven,
+  SetupsHitShown,
+  PairsFindShown,
+};
 
 /// Bit c of row j of columns is bit j of column c, and turning the rows gives the columns again.
 pub fn rows_turn_columns()
@@ -64,4 +78,38 @@ pub fn deals_show_common()
 /// the easy half of Hall's theorem, with the rows of the stash as the deficiency.
 pub fn crowded_excludes_placement()
     ensures { CrowdedExcludesPlacement }
+{}
+
+/// The sender's stream is the same for its items in any order, and so are the bytes of the whole session.
+pub fn order_is_hidden()
+    ensures stream { OrderIsHidden }
+    ensures session { SessionsHideOrder }
+{}
+
+/// A sender that opens its columns in place sends the same: its hello, and the lists over the rows of what it opened.
+pub fn opened_columns_answer()
+    ensures { OpenedColumnsAnswer }
+{}
+
+/// What both ends send is well formed, and the bytes of a well-formed stream tell its count and its columns, or its
+/// count and its lists.
+pub fn streams_tell()
+    ensures receivers { ReceiverStreamsAreWellFormed }
+    ensures senders { SenderStreamsAreWellFormed }
+    ensures columns { ReceiverStreamsTell }
+    ensures lists { SenderStreamsTell }
+{}
+
+/// How long streams are, and where their parts stand on the wire.
+pub fn streams_have_sizes()
+    ensures receivers { ReceiverStreamsHaveSizes }
+    ensures senders { SenderStreamsHaveSizes }
+    ensures woven { SessionsAreWoven }
+{}
+
+/// What the receiver finds in the sender's lists is what is shown: in every setup over any columns, and for every pair
+/// of deals, in the lists that its sender makes and in those that are read from its stream.
+pub fn finds_shown()
+    ensures setups { SetupsHitShown }
+    ensures pairs { PairsFindShown }
 {}
