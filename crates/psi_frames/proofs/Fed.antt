@@ -12,7 +12,7 @@ use Rattle.psi_frames.specs.Expected.{IsValid, frame_length, seen, wrong}
 use Rattle.psi_frames.specs.Boxes.{Answers, InboxState, after_feed, missing_of, taken_of}
 use Rattle.psi_frames.specs.Laws.{FedInPieces, Reads, ReadsWritten, RefusedTakesNone}
 
-take_past : (n : ℕ) (a b : List ℕ) (j : ℕ) → n ≡ length a + j → take n (a ++ b) ≡ a ++ take j b
+pub take_past : (n : ℕ) (a b : List ℕ) (j : ℕ) → n ≡ length a + j → take n (a ++ b) ≡ a ++ take j b
 take_past n [] b j long = let one : n ≡ j = omega arith in ap (λ (k : ℕ). take k b) one
 take_past zero (x ∷ a) b j long = absurd (omega arith)
 take_past (suc n) (x ∷ a) b j long = ap (λ (xs : List ℕ). x ∷ xs) (take_past n a b j (omega arith))

@@ -79,7 +79,7 @@ length-hello deal number items long =
     omega (arith, long, front, whole)
 
 -- a frame with the expected parts may come
-valid_from_parts : (e : Expect) (f : spec.Frame) → payload_of e < 2 ^ 32 → Fits f → HasParts e f → IsValid e f
+pub valid_from_parts : (e : Expect) (f : spec.Frame) → payload_of e < 2 ^ 32 → Fits f → HasParts e f → IsValid e f
 unfolding wrong
 valid_from_parts (expect.ReceiverHello id session) (spec.receiver_hello deal number items) small fits parts =
     let long = length-hello deal number items fits.id in

@@ -2,6 +2,7 @@
 ghost use Rattle.std.specs.Prelude.{◌≡◌, ◌≤◌, [], length, None, Err, IfOk, IfSome};
 ghost use Rattle.std.specs.Borrow.{sem};
 ghost use Rattle.std.specs.Io.BufRead.{Rests};
+ghost use Rattle.psi_spec.specs.Frames.{AreBytes};
 ghost use Rattle.psi_frames.specs.contracts.inbox.Inbox.{the_row};
 ghost use Rattle.psi_frames.specs.Boxes.{Answers, Leaves, MayExpect, after_feed, missing_of, taken_of};
 
@@ -86,6 +87,7 @@ impl Inbox {
         requires { MayExpect self.old expect.now }
         ensures taken { result ≡ taken_of self.old expect.now (length bytes.now) }
         ensures fed { self.new ≡ after_feed expect.now bytes.now self.old }
+        ensures are_bytes { AreBytes bytes.now }
         ensures more { MayExpect self.new expect.now }
     {
         let taken = bytes.len().min(self.missing(expect) as usize);

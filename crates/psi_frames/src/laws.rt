@@ -1,5 +1,6 @@
 //! Laws of frames. Each function does nothing: its contract is the law.
 ghost use Rattle.psi_frames.specs.Laws.{FieldsFill, OrderBySorting, TagsByPlace, NoneBelowZeros, WrongStays, OneOfThree, OneFrame, FedInPieces, ReadsWritten, RefusedTakesNone};
+ghost use Rattle.psi_frames.specs.ScriptLaws.{OwedGrows, OwesAll, OwesOn, ReadingStays, ReadsAwaited, ReadsFrames, ReadsOn};
 ghost use Rattle.psi_frames.specs.Valid.{ValidByParts};
 
 /// The fields of a frame fill it. Tags stand one after another; they are in order exactly where they rise
@@ -37,4 +38,22 @@ pub fn reading()
 /// After a refusal an inbox takes nothing more.
 pub fn refusing()
     ensures { RefusedTakesNone }
+{}
+
+/// A script reads bytes frame by frame. They read well, badly or short exactly where they are frames that are
+/// due, and then nothing is, a field of the next is wrong, or the next is only begun. A reading that is not short
+/// stays, whatever follows.
+pub fn readings()
+    ensures exact { ReadsFrames }
+    ensures awaited { ReadsAwaited }
+    ensures on { ReadsOn }
+    ensures stays { ReadingStays }
+{}
+
+/// What a script owes is owed frame by frame, and what is owed for some bytes is a front of what is owed for
+/// more.
+pub fn owing()
+    ensures all { OwesAll }
+    ensures on { OwesOn }
+    ensures grows { OwedGrows }
 {}

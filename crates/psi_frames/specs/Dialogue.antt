@@ -1,6 +1,7 @@
 -- One end of a session over the link: what the peer's bytes mean, and what is sent for them.
 use Rattle.std.specs.Prelude.{◌≡◌, ◌≤◌, ◌⊎◌, ◌-◌, ◌++◌, ℕ, List, [], All, length, take, drop, Option, option_map, Result, Ok, Err, IfSome}
 use Rattle.std.specs.List.{flat_map}
+use Rattle.psi_spec.specs.Frames.{AreBytes}
 use Rattle.psi_base.specs.Outside.{Known, Outside, LinkFailed, Rose, Starved}
 use Rattle.psi_frames.specs.declared.reasons.BadFrame.{BadFrame}
 use Rattle.psi_frames.specs.declared.turns.EndFault.{EndFault}
@@ -13,12 +14,10 @@ pub data Reading : Type 0 where
   bad : BadFrame → Reading
   short : ℕ → Reading
 
--- an end of a session: how the peer's bytes read, all that is to be sent once these bytes of the peer were taken, and
--- how much may be sent while memory may still be wanting
+-- an end of a session: how the peer's bytes read, and all that is to be sent once these bytes of the peer were taken
 pub record Dialogue : Type 0 where
   pub reads_as : List ℕ → Reading
   pub owes : List ℕ → List ℕ
-  pub memory_until : ℕ
 
 -- what was owed before the last of these bytes was taken
 abbrev pub owed_before : Dialogue → List ℕ → List ℕ
@@ -30,6 +29,7 @@ pub record WereTaken (known : Known) (incoming : Option (List ℕ)) (taken : Lis
   pub pieces : List (List ℕ)
   pub joined : taken ≡ flat_map (λ piece. piece) pieces
   pub came : All known.comes pieces
+  pub are_bytes : AreBytes taken
   pub next : IfSome incoming (λ bytes. take (length taken) bytes ≡ taken)
 
 -- the bytes that were taken read so, and so do all of the peer's, where they are told
@@ -70,7 +70,8 @@ pub record HeardShort (known : Known) (d : Dialogue) (before : Outside) (offset 
   pub rose : Rose before.ends after.ends
   pub left : after ≡ record (talked before (d.owes (take offset taken)) taken) { ends = after.ends }
 
--- what a session may answer, the bytes that were taken or why it was cut off, and what it leaves
+-- what a session may answer, the bytes that were taken or why it was cut off, and what it leaves; this end's own memory
+-- is wanting only while no more was sent than is owed before the peer's first byte
 abbrev pub Talks : Known → Dialogue → Outside → Result (List ℕ) EndFault → Outside → Type 0
 Talks known d before (Ok taken) after =
     WereTaken known before.incoming taken × ReadSo d before.incoming taken (good taken)
@@ -79,4 +80,4 @@ Talks known d before (Err (fault.Bad frame)) after = HeardBad known d before fra
 Talks known d before (Err (fault.PeerEnded offset)) after = HeardShort known d before offset after
 Talks known d before (Err fault.Link) after = CutOff known d before (λ sent mid. LinkFailed mid after)
 Talks known d before (Err fault.NoMemory) after =
-    CutOff known d before (λ sent mid. Starved mid after ⊎ ((sent ≤ d.memory_until) × (after ≡ mid)))
+    CutOff known d before (λ sent mid. Starved mid after ⊎ ((sent ≤ length (d.owes [])) × (after ≡ mid)))
