@@ -1,0 +1,4 @@
+pub mod Walking
+pub mod Faultless
+pub mod Slots
+pub mod Lawful
