@@ -1,0 +1,7 @@
+mod Making
+mod Listed
+mod Coming
+mod Going
+pub mod Awaited
+pub mod Serving
+mod Within

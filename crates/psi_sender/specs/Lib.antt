@@ -1,0 +1,6 @@
+pub mod Script
+pub mod Phases
+pub mod Hashed
+pub mod Answering
+pub mod Running
+pub mod Laws
