@@ -1,72 +1,132 @@
--- The status of a run comes from a step of its tree, along contents that were read.
-use Rattle.std.proofs.Common.{◌≡◌, ◌⊎◌, inl, inr, ℕ, Bool, true, List, [], ◌∷◌, suc, Option, Ok, Err, refl, sym, ap, subst}
+-- The status of a run comes from a step of its tree, along contents that were read, and no more was sent than along it.
+use Rattle.std.proofs.Common.{◌≡◌, ◌⊎◌, inl, inr, ℕ, Bool, true, List, [], ◌∷◌, suc, Option, Some, None, Ok, Err, refl, sym, ap, ◌∙◌, subst}
 use Rattle.std.specs.declared.result.Result.{Result}
 use Rattle.psi_spec.specs.Placement.{Slot, IsPlacement}
 use Rattle.psi_spec.specs.Words.{word_at}
-use Rattle.psi_base.specs.Outside.{Known, Outside, Reads, Writes, PrintsAll, Opens}
+use Rattle.psi_base.specs.Outside.{Known, Outside, Reads, Rose, Writes, PrintsAll, Opens, partly_written, printed_too, written}
 use Rattle.psi_base.specs.declared.faults.Fault.{Fault}
 use Rattle.psi_base.specs.declared.faults.Fault.TheVariants as fault
 use Rattle.psi_base.specs.declared.faults.ReadFault.{ReadFault}
 use Rattle.psi_base.specs.declared.faults.ReadFault.TheVariants as read
 use Rattle.psi_frames.specs.declared.turns.EndFault.{EndFault}
 use Rattle.psi_frames.specs.declared.turns.EndFault.TheVariants as peer
-use Rattle.psi_top.specs.Dialogue.{Dialogue, Talks, talked}
-use Rattle.psi_top.specs.Promises.{IsAnswered, IsNotPlaced, IsNotTalked, IsOfEnd, IsUnread}
+use Rattle.psi_frames.specs.Dialogue.{Dialogue, Talks, talked}
+use Rattle.psi_top.specs.Promises.{IsAnswered, IsHungry, IsNotPlaced, IsNotTalked, IsOfEnd, IsSilent, IsUnread}
 use Rattle.psi_top.specs.Tree.{Effect, says, puts, Placing, Tree, reads, refuses, places, opens, talks, ends, End, stopped}
-use Rattle.psi_top.specs.Walk.{AtCall, AtPlace, AtRefusal, AtEnd, starved, cut, passed, hungry, crowded, placed, given_up, refused, gave_up, all_done, IsVerdict, Does, Follows, read_status, write_status, print_status, open_status, talk_status}
+use Rattle.psi_top.specs.Walk.{AtCall, AtPlace, AtRefusal, AtEnd, starved, cut, passed, hungry, crowded, placed, given_up, refused, gave_up, all_done, IsVerdict, Does, Follows, Gives, read_status, write_status, print_status, open_status, talk_status}
 use Rattle.psi_top.specs.declared.status.Status.{Status}
 use Rattle.psi_top.specs.declared.status.Status.TheVariants as status
 
--- a run that ended with a status of which a fact holds
-ended_so : (P : Status → Type 0) (end : End) (why : Status) (after : Outside) → end ≡ stopped why after → P why → P end.status
-ended_so P end why after e h = subst P (sym (ap (λ (d : End). d.status) e)) h
+-- a run that ended so, of which a fact holds
+ended_so : (P : Status → Outside → Type 0) (end : End) (why : Status) (after : Outside) → end ≡ stopped why after → P why after → P end.status end.left
+ended_so P end why after e h = subst (λ (d : End). P d.status d.left) (sym e) h
+
+-- ---- what leaves the link alone
+
+silent : (o : Outside) → IsSilent o o
+silent o = record { incoming = refl; outgoing = refl }
+
+silent_as : (before after : Outside) → (other : Outside) → after ≡ other → IsSilent before other → IsSilent before after
+silent_as before after other e h = subst (λ (o : Outside). IsSilent before o) (sym e) h
+
+read_silent : (known : Known) (name : List ℕ) (limit : ℕ) (before : Outside) (why : ReadFault) (after : Outside)
+    → Reads known before name limit (Err why) after → IsSilent before after
+read_silent known name limit before read.Failed after h = silent_as before after _ h.left (record { incoming = refl; outgoing = refl })
+read_silent known name limit before (read.TooLong taken) after h = silent_as before after before h.2 (silent before)
+read_silent known name limit before read.NoMemory after h = silent_as before after before h (silent before)
+
+open_silent : (before : Outside) (why : Fault) (after : Outside) → Opens before (Err why) after → IsSilent before after
+open_silent before fault.Failed after h = silent_as before after _ h.left (record { incoming = refl; outgoing = refl })
+open_silent before fault.NoMemory after h = silent_as before after _ h.left (record { incoming = refl; outgoing = refl })
+
+print_silent : (before : Outside) (text : List ℕ) (why : Fault) (after : Outside) → PrintsAll before text (Err why) after → IsSilent before after
+print_silent before text fault.Failed after h = silent_as before after _ h.2.left (record { incoming = refl; outgoing = refl })
+print_silent before text fault.NoMemory after h = silent_as before after _ h.2.left (record { incoming = refl; outgoing = refl })
+
+part_silent : (before mid : Outside) (name bytes : List ℕ) (part : Option ℕ) → IsSilent before mid → IsSilent before (partly_written mid name bytes part)
+part_silent before mid name bytes None h = h
+part_silent before mid name bytes (Some count) h = record { incoming = h.incoming; outgoing = h.outgoing }
+
+write_silent : (before : Outside) (name bytes : List ℕ) (why : Fault) (after : Outside) → Writes before name bytes (Err why) after → IsSilent before after
+write_silent before name bytes fault.Failed after h =
+    silent_as before after _ h.left (part_silent before (record before { file_faults = after.file_faults }) name bytes h.part (record { incoming = refl; outgoing = refl }))
+write_silent before name bytes fault.NoMemory after h =
+    silent_as before after _ h.left (part_silent before (record before { refusals = after.refusals }) name bytes h.part (record { incoming = refl; outgoing = refl }))
+
+silent_on : (before mid after : Outside) → IsSilent before mid → IsSilent mid after → IsSilent before after
+silent_on before mid after first second = record { incoming = second.incoming ∙ first.incoming; outgoing = second.outgoing ∙ first.outgoing }
 
 -- ---- what is left to do
 
-of_later : (why : Status) (effect : Effect) (rest : List Effect) → IsOfEnd why rest → IsOfEnd why (effect ∷ rest)
-of_later status.Done effect rest h = h
-of_later status.NoMemory effect rest h = h
-of_later _ effect rest h = (suc h.0, h.1, h.2, h.3)
+of_later : (taken : Bool) (why : Status) (effect : Effect) (rest : List Effect) → IsOfEnd taken why rest → IsOfEnd taken why (effect ∷ rest)
+of_later taken status.Done effect rest h = h
+of_later taken status.NoMemory effect rest (inl e) = inl e
+of_later taken status.NoMemory effect rest (inr h) = inr (suc h.0, h.1, h.2)
+of_later taken _ effect rest h = (suc h.0, h.1, h.2, h.3)
+
+-- a status of these effects, with nothing sent
+abbrev OfEffects : Bool → List Effect → Outside → Status → Outside → Type 0
+OfEffects taken effects before why after = IsOfEnd taken why effects × IsSilent before after × IsHungry taken before why after
 
 effect_call : {E : Type 0} (taken : Bool) (Calls : Result (Unit {0}) E → Outside → Type 0) (status_of : E → Status) (before : Outside) (end : End)
     (Rest : Unit {0} → Outside → Type 0) (effect : Effect) (rest : List Effect)
-    → ((why : E) → IsOfEnd (status_of why) (effect ∷ rest))
-    → ((x : Unit {0}) (after : Outside) → Rest x after → IsOfEnd end.status rest)
-    → AtCall taken Calls status_of before end Rest → IsOfEnd end.status (effect ∷ rest)
-effect_call taken Calls status_of before end Rest effect rest err ok (starved t e) = ended_so (λ s. IsOfEnd s (effect ∷ rest)) end status.NoMemory before e tt
-effect_call taken Calls status_of before end Rest effect rest err ok (cut why after h e) = ended_so (λ s. IsOfEnd s (effect ∷ rest)) end (status_of why) after e (err why)
-effect_call taken Calls status_of before end Rest effect rest err ok (passed x after h more) = of_later end.status effect rest (ok x after more)
+    → ((why : E) (after : Outside) → Calls (Err why) after → OfEffects taken (effect ∷ rest) before (status_of why) after)
+    → ((x : Unit {0}) (after : Outside) → Calls (Ok x) after → Rest x after → OfEffects taken rest before end.status end.left)
+    → AtCall taken Calls status_of before end Rest → OfEffects taken (effect ∷ rest) before end.status end.left
+effect_call taken Calls status_of before end Rest effect rest err ok (starved t e) = ended_so (OfEffects taken (effect ∷ rest) before) end status.NoMemory before e (inl t, silent before, inl t)
+effect_call taken Calls status_of before end Rest effect rest err ok (cut why after h e) = ended_so (OfEffects taken (effect ∷ rest) before) end (status_of why) after e (err why after h)
+effect_call taken Calls status_of before end Rest effect rest err ok (passed x after h more) =
+    let later = ok x after h more in (of_later taken end.status effect rest later.0, later.1, later.2)
 
-of_print : (text : List ℕ) (rest : List Effect) (why : Fault) → IsOfEnd (print_status why) (says text ∷ rest)
-of_print text rest fault.Failed = (0, says text, refl, tt)
-of_print text rest fault.NoMemory = tt
+of_print : (taken : Bool) (text : List ℕ) (rest : List Effect) (before : Outside) (why : Fault) (after : Outside) → PrintsAll before text (Err why) after
+    → OfEffects taken (says text ∷ rest) before (print_status why) after
+of_print taken text rest before fault.Failed after h = ((0, says text, refl, tt), print_silent before text fault.Failed after h, tt)
+of_print taken text rest before fault.NoMemory after h = (inr (0, says text, refl), print_silent before text fault.NoMemory after h, inr h.2.rose)
 
-of_write : (word : ℕ) (bytes : List ℕ) (rest : List Effect) (why : Fault) → IsOfEnd (write_status word why) (puts word bytes ∷ rest)
-of_write word bytes rest fault.Failed = (0, puts word bytes, refl, refl)
-of_write word bytes rest fault.NoMemory = tt
+of_write : (taken : Bool) (name : List ℕ) (word : ℕ) (bytes : List ℕ) (rest : List Effect) (before : Outside) (why : Fault) (after : Outside)
+    → Writes before name bytes (Err why) after → OfEffects taken (puts word bytes ∷ rest) before (write_status word why) after
+of_write taken name word bytes rest before fault.Failed after h = ((0, puts word bytes, refl, refl), write_silent before name bytes fault.Failed after h, tt)
+of_write taken name word bytes rest before fault.NoMemory after h = (inr (0, puts word bytes, refl), write_silent before name bytes fault.NoMemory after h, inr h.rose)
 
-of_done : (taken : Bool) (wire : Option (List ℕ)) (before : Outside) (end : End) → AtEnd taken wire before end → IsOfEnd end.status []
-of_done taken wire before end (gave_up t e) = ended_so (λ s. IsOfEnd s []) end status.NoMemory before e tt
-of_done taken wire before end (all_done e) = subst (λ s. IsOfEnd s []) (sym (ap (λ (d : End). d.status) e)) tt
+of_done : (taken : Bool) (wire : Option (List ℕ)) (before : Outside) (end : End) → AtEnd taken wire before end → OfEffects taken [] before end.status end.left
+of_done taken wire before end (gave_up t e) = ended_so (OfEffects taken [] before) end status.NoMemory before e (inl t, silent before, inl t)
+of_done taken wire before end (all_done e) = subst (λ (d : End). OfEffects taken [] before d.status d.left) (sym e) (tt, silent before, tt)
+
+hungry_on : (taken : Bool) (before mid : Outside) (why : Status) (after : Outside) → mid.refusals ≡ before.refusals → IsHungry taken mid why after
+    → IsHungry taken before why after
+hungry_on taken before mid status.NoMemory after same (inl e) = inl e
+hungry_on taken before mid status.NoMemory after same (inr rose) = inr (subst (λ (n : ℕ). Rose n after.refusals) same rose)
+hungry_on taken before mid _ after same h = tt
+
+-- what the rest of the effects come to, after one that sent nothing
+effect_on : (taken : Bool) (rest : List Effect) (before mid after : Outside) (end : End) → after ≡ mid → IsSilent before mid → mid.refusals ≡ before.refusals
+    → OfEffects taken rest after end.status end.left → OfEffects taken rest before end.status end.left
+effect_on taken rest before mid after end was quiet same later = (
+  later.0,
+  silent_on before after end.left (silent_as before after mid was quiet) later.1,
+  hungry_on taken before after end.status end.left (ap (λ (o : Outside). o.refusals) was ∙ same) later.2,
+)
 
 does_answer : (words : List (List ℕ)) (taken : Bool) (wire : Option (List ℕ)) (effects : List Effect) (before : Outside) (end : End)
-    → Does words taken wire effects before end → IsOfEnd end.status effects
+    → Does words taken wire effects before end → OfEffects taken effects before end.status end.left
 unfolding Does
 does_answer words taken wire [] before end h = of_done taken wire before end h
 does_answer words taken wire (says text ∷ rest) before end h =
     effect_call taken (PrintsAll before text) print_status before end (λ _ after. Does words taken wire rest after end) (says text) rest
-    (of_print text rest) (λ x after more. does_answer words taken wire rest after end more) h
+    (of_print taken text rest before)
+    (λ x after was more. effect_on taken rest before (printed_too before text) after end was (record { incoming = refl; outgoing = refl }) refl (does_answer words taken wire rest after end more)) h
 does_answer words taken wire (puts word bytes ∷ rest) before end h =
     effect_call taken (Writes before (word_at words word) bytes) (write_status word) before end (λ _ after. Does words taken wire rest after end) (puts word bytes) rest
-    (of_write word bytes rest) (λ x after more. does_answer words taken wire rest after end more) h
+    (of_write taken (word_at words word) word bytes rest before)
+    (λ x after was more. effect_on taken rest before (written before (word_at words word) bytes) after end was (record { incoming = refl; outgoing = refl }) refl (does_answer words taken wire rest after end more)) h
 
 -- ---- the walk
 
 call_answer : {A E : Type 0} (taken : Bool) (Calls : Result A E → Outside → Type 0) (status_of : E → Status) (before : Outside) (end : End)
-    (Rest : A → Outside → Type 0) (P : Status → Type 0) → P status.NoMemory
-    → ((why : E) (after : Outside) → Calls (Err why) after → P (status_of why))
-    → ((x : A) (after : Outside) → Calls (Ok x) after → Rest x after → P end.status)
-    → AtCall taken Calls status_of before end Rest → P end.status
+    (Rest : A → Outside → Type 0) (P : Status → Outside → Type 0) → P status.NoMemory before
+    → ((why : E) (after : Outside) → Calls (Err why) after → P (status_of why) after)
+    → ((x : A) (after : Outside) → Calls (Ok x) after → Rest x after → P end.status end.left)
+    → AtCall taken Calls status_of before end Rest → P end.status end.left
 call_answer taken Calls status_of before end Rest P none err ok (starved t e) = ended_so P end status.NoMemory before e none
 call_answer taken Calls status_of before end Rest P none err ok (cut why after h e) = ended_so P end (status_of why) after e (err why after h)
 call_answer taken Calls status_of before end Rest P none err ok (passed x after h more) = ok x after h more
@@ -82,50 +142,52 @@ unopened fault.Failed = inl refl
 unopened fault.NoMemory = inr refl
 
 untalked : (known : Known) (d : Dialogue) (before : Outside) (why : EndFault) (after : Outside)
-    → Talks known d before (Err why) after → IsNotTalked known d before (talk_status why)
-untalked known d before (peer.Bad frame) after h = (h.taken, h.were_taken, h.reads)
-untalked known d before (peer.PeerEnded offset) after h = (h.taken, h.were_taken, h.reads)
-untalked known d before peer.Link after h = tt
-untalked known d before peer.NoMemory after h = tt
+    → Talks known d before (Err why) after → IsNotTalked known d before (talk_status why) after
+untalked known d before (peer.Bad frame) after h = h
+untalked known d before (peer.PeerEnded offset) after h = h
+untalked known d before peer.Link after h = h
+untalked known d before peer.NoMemory after h = inr h
 
 refusal_answers : (taken : Bool) (verdict : Status) (before : Outside) (end : End) → AtRefusal taken verdict before end
-    → (end.status ≡ status.NoMemory) ⊎ ((end.status ≡ verdict) × IsVerdict verdict)
-refusal_answers taken verdict before end (given_up t e) = inl (ap (λ (d : End). d.status) e)
-refusal_answers taken verdict before end (refused v e) = inr (ap (λ (d : End). d.status) e, v)
+    → ((end.status ≡ status.NoMemory) ⊎ ((end.status ≡ verdict) × IsVerdict verdict)) × IsSilent before end.left
+refusal_answers taken verdict before end (given_up t e) =
+    (inl (ap (λ (d : End). d.status) e), silent_as before end.left before (ap (λ (d : End). d.left) e) (silent before))
+refusal_answers taken verdict before end (refused v e) =
+    (inr (ap (λ (d : End). d.status) e, v), silent_as before end.left before (ap (λ (d : End). d.left) e) (silent before))
 
-place_answers : (taken : Bool) (word : ℕ) (set : Placing) (before : Outside) (end : End) (Rest : List Slot → End → Type 0) (P : Status → Type 0)
-    → ((why : Status) → IsNotPlaced word set why → P why)
-    → ((slots : List Slot) (later : End) → IsPlacement set.stash set.bins set.candidates slots → Rest slots later → P later.status)
-    → AtPlace taken word set before end Rest → P end.status
+place_answers : (taken : Bool) (word : ℕ) (set : Placing) (before : Outside) (end : End) (Rest : List Slot → End → Type 0) (P : Status → Outside → Type 0)
+    → ((why : Status) → IsNotPlaced word set why → P why before)
+    → ((slots : List Slot) (later : End) → IsPlacement set.stash set.bins set.candidates slots → Rest slots later → P later.status later.left)
+    → AtPlace taken word set before end Rest → P end.status end.left
 place_answers taken word set before end Rest P not rest (hungry t e) = ended_so P end status.NoMemory before e (not status.NoMemory tt)
 place_answers taken word set before end Rest P not rest (crowded items h e) = ended_so P end _ before e (not _ (refl, h, refl))
 place_answers taken word set before end Rest P not rest (placed slots later h e more) =
-    subst P (sym (ap (λ (d : End). d.status) e)) (rest slots later h more)
+    subst (λ (d : End). P d.status d.left) (sym e) (rest slots later h more)
 
 pub follows_answers : (known : Known) (words : List (List ℕ)) (taken : Bool) (tree : Tree) (before : Outside) (end : End)
-    → Follows known words taken tree before end → IsAnswered known words tree before end.status
+    → Follows known words taken tree before end → IsAnswered known words taken tree before end.status end.left
 unfolding Follows
 follows_answers known words taken (reads word limit next) before end h =
-    call_answer taken (Reads known before (word_at words word) limit) (read_status word) before end (λ bytes after. Follows known words taken (next bytes) after end)
-    (λ s. IsAnswered known words (reads word limit next) before s) (inl tt)
-    (λ why after was. inl (unread known (word_at words word) word limit before why after was))
+    call_answer taken (Gives known before (word_at words word) limit) (read_status word) before end (λ bytes after. Follows known words taken (next bytes) after end)
+    (IsAnswered known words taken (reads word limit next) before) (inl (tt, silent before))
+    (λ why after was. inl (unread known (word_at words word) word limit before why after was, read_silent known (word_at words word) limit before why after was))
     (λ bytes after was more. inr (
       bytes,
-      record { file = was.1; given = was.2; short = was.0 },
-      follows_answers known words taken (next bytes) before end (subst (λ (o : Outside). Follows known words taken (next bytes) o end) was.3 more),
+      record { file = was.1.1; given = was.1.2; are_bytes = was.0; short = was.1.0 },
+      follows_answers known words taken (next bytes) before end (subst (λ (o : Outside). Follows known words taken (next bytes) o end) was.1.3 more),
     )) h
 follows_answers known words taken (refuses verdict) before end h = refusal_answers taken verdict before end h
 follows_answers known words taken (places word set next) before end h =
     place_answers taken word set before end (λ slots later. Follows known words taken (next slots) before later)
-    (λ s. IsAnswered known words (places word set next) before s) (λ why not. inl not)
+    (IsAnswered known words taken (places word set next) before) (λ why not. inl (not, silent before))
     (λ slots later is more. inr (slots, is, follows_answers known words taken (next slots) before later more)) h
 follows_answers known words taken (opens next) before end h =
     call_answer taken (Opens before) open_status before end (λ _ after. Follows known words taken next after end)
-    (λ s. IsAnswered known words (opens next) before s) (inl (inr refl)) (λ why after was. inl (unopened why))
+    (IsAnswered known words taken (opens next) before) (inl (inr refl, silent before)) (λ why after was. inl (unopened why, open_silent before why after was))
     (λ x after was more. inr (follows_answers known words taken next (record before { ready = true }) end (subst (λ (o : Outside). Follows known words taken next o end) was more))) h
 follows_answers known words taken (talks d next) before end h =
     call_answer taken (Talks known d before) talk_status before end (λ bytes after. Follows known words true (next bytes) after end)
-    (λ s. IsAnswered known words (talks d next) before s) (inl tt) (λ why after was. inl (untalked known d before why after was))
+    (IsAnswered known words taken (talks d next) before) (inl (inl refl)) (λ why after was. inl (untalked known d before why after was))
     (λ bytes after was more. inr (
       bytes,
       was.0,

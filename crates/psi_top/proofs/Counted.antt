@@ -1,5 +1,5 @@
 -- Which count a run changes: that of its status's cause, and no other.
-use Rattle.std.proofs.Common.{◌≡◌, ◌≤◌, ◌⊎◌, inl, inr, ℕ, Bool, true, false, List, [], ◌∷◌, take, Option, Some, None, Ok, Err, refl, sym, ap, ◌∙◌, subst, arith}
+use Rattle.std.proofs.Common.{◌≡◌, ◌≤◌, ◌⊎◌, inl, inr, ℕ, Bool, true, false, List, [], ◌∷◌, take, Option, Some, None, Ok, Err, refl, sym, ap, ◌∙◌, subst, arith, length}
 use Rattle.std.specs.declared.result.Result.{Result}
 use Rattle.psi_spec.specs.Placement.{Slot}
 use Rattle.psi_spec.specs.Words.{word_at}
@@ -10,10 +10,10 @@ use Rattle.psi_base.specs.declared.faults.ReadFault.{ReadFault}
 use Rattle.psi_base.specs.declared.faults.ReadFault.TheVariants as read
 use Rattle.psi_frames.specs.declared.turns.EndFault.{EndFault}
 use Rattle.psi_frames.specs.declared.turns.EndFault.TheVariants as peer
-use Rattle.psi_top.specs.Dialogue.{Dialogue, Talks, talked}
+use Rattle.psi_frames.specs.Dialogue.{Dialogue, Talks, talked}
 use Rattle.psi_top.specs.Promises.{Counts, counts_of, IsCounted}
 use Rattle.psi_top.specs.Tree.{Effect, says, puts, Placing, Tree, reads, refuses, places, opens, talks, ends, End, stopped}
-use Rattle.psi_top.specs.Walk.{AtCall, AtPlace, AtRefusal, AtEnd, starved, cut, passed, hungry, crowded, placed, given_up, refused, gave_up, all_done, IsVerdict, Does, Follows, read_status, write_status, print_status, open_status, talk_status}
+use Rattle.psi_top.specs.Walk.{AtCall, AtPlace, AtRefusal, AtEnd, starved, cut, passed, hungry, crowded, placed, given_up, refused, gave_up, all_done, IsVerdict, Does, Follows, Gives, read_status, write_status, print_status, open_status, talk_status}
 use Rattle.psi_top.specs.declared.status.Status.{Status}
 use Rattle.psi_top.specs.declared.status.Status.TheVariants as status
 
@@ -99,7 +99,7 @@ cut_talk known words d before (peer.PeerEnded offset) after h = (h.rose, ap coun
 cut_talk known words d before peer.Link after h = (h.why.rose, h.why.unsteady, ap counts_of h.why.left)
 cut_talk known words d before peer.NoMemory after h =
     let mid = talked before (take h.sent (d.owes h.taken)) h.taken in
-    talk_starved words before mid after (h.sent ≤ d.memory_until) (record { counts = refl; files = refl; steady = refl }) h.why
+    talk_starved words before mid after (h.sent ≤ length (d.owes [])) (record { counts = refl; files = refl; steady = refl }) h.why
 
 -- ---- effects: a file that is written fails in no steady world
 
@@ -239,8 +239,8 @@ pub follows_counted : (known : Known) (words : List (List ℕ)) (taken : Bool) (
     → Follows known words taken tree before end → IsCounted words before end.status end.left
 unfolding Follows
 follows_counted known words taken (reads word limit next) before end h =
-    call_counted words taken (Reads known before (word_at words word) limit) (read_status word) before end (λ bytes after. Follows known words taken (next bytes) after end)
-    (cut_read known words word limit before) (λ x after e. kept_same before after e.3) (λ x after later. follows_counted known words taken (next x) after end later) h
+    call_counted words taken (Gives known before (word_at words word) limit) (read_status word) before end (λ bytes after. Follows known words taken (next bytes) after end)
+    (cut_read known words word limit before) (λ x after e. kept_same before after e.1.3) (λ x after later. follows_counted known words taken (next x) after end later) h
 follows_counted known words taken (refuses verdict) before end h = refusal_counted words taken verdict before end h
 follows_counted known words taken (places word set next) before end h =
     place_counted words taken word set before end (λ slots later. Follows known words taken (next slots) before later)

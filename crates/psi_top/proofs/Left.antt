@@ -3,18 +3,18 @@ use Rattle.std.proofs.Common.{◌≡◌, ℕ, Bool, true, List, [], ◌∷◌, O
 use Rattle.std.specs.declared.result.Result.{Result}
 use Rattle.psi_spec.specs.Placement.{Slot}
 use Rattle.psi_spec.specs.Words.{word_at}
-use Rattle.psi_base.specs.Outside.{Known, Outside, Reads, Writes, PrintsAll, Opens, printed_too, written}
+use Rattle.psi_base.specs.Outside.{Known, Outside, Writes, PrintsAll, Opens, printed_too, written}
 use Rattle.psi_base.specs.declared.faults.Fault.{Fault}
 use Rattle.psi_base.specs.declared.faults.Fault.TheVariants as fault
 use Rattle.psi_base.specs.declared.faults.ReadFault.{ReadFault}
 use Rattle.psi_base.specs.declared.faults.ReadFault.TheVariants as read
 use Rattle.psi_frames.specs.declared.turns.EndFault.{EndFault}
 use Rattle.psi_frames.specs.declared.turns.EndFault.TheVariants as peer
-use Rattle.psi_top.specs.Dialogue.{Talks, talked}
+use Rattle.psi_frames.specs.Dialogue.{Talks, talked}
 use Rattle.psi_top.specs.Due.{after_effects}
 use Rattle.psi_top.specs.Promises.{Leaves}
 use Rattle.psi_top.specs.Tree.{Effect, says, puts, Placing, Tree, reads, refuses, places, opens, talks, ends, End}
-use Rattle.psi_top.specs.Walk.{AtCall, AtPlace, AtRefusal, AtEnd, starved, cut, passed, hungry, crowded, placed, given_up, refused, gave_up, all_done, IsVerdict, Does, Follows, read_status, write_status, print_status, open_status, talk_status}
+use Rattle.psi_top.specs.Walk.{AtCall, AtPlace, AtRefusal, AtEnd, starved, cut, passed, hungry, crowded, placed, given_up, refused, gave_up, all_done, IsVerdict, Does, Follows, Gives, read_status, write_status, print_status, open_status, talk_status}
 use Rattle.psi_top.specs.declared.status.Status.{Status}
 use Rattle.psi_top.specs.declared.status.Status.TheVariants as status
 
@@ -92,11 +92,11 @@ pub follows_leaves : (known : Known) (words : List (List ℕ)) (taken : Bool) (t
     → Follows known words taken tree before end → Leaves known words tree before end
 unfolding Follows
 follows_leaves known words taken (reads word limit next) before end done h =
-    call_left taken (Reads known before (word_at words word) limit) (read_status word) before end (λ bytes after. Follows known words taken (next bytes) after end) _ done (read_not_done word)
+    call_left taken (Gives known before (word_at words word) limit) (read_status word) before end (λ bytes after. Follows known words taken (next bytes) after end) _ done (read_not_done word)
     (λ bytes after was more. (
       bytes,
-      record { file = was.1; given = was.2; short = was.0 },
-      follows_leaves known words taken (next bytes) before end done (subst (λ (o : Outside). Follows known words taken (next bytes) o end) was.3 more),
+      record { file = was.1.1; given = was.1.2; are_bytes = was.0; short = was.1.0 },
+      follows_leaves known words taken (next bytes) before end done (subst (λ (o : Outside). Follows known words taken (next bytes) o end) was.1.3 more),
     )) h
 follows_leaves known words taken (refuses why) before end done h = absurd (refusal_left taken why before end done h)
 follows_leaves known words taken (places word set next) before end done h =

@@ -4,6 +4,7 @@ pub mod Counted
 pub mod DealLaws
 pub mod DealWords
 pub mod Forms
+pub mod JudgedFiles
 pub mod Laws
 pub mod Left
 pub mod LocalLaws
@@ -11,6 +12,7 @@ pub mod LocalWords
 pub mod NamedWords
 pub mod Opened
 pub mod Placed
+pub mod SendLaws
 pub mod Shown
 pub mod Standing
 pub mod Walked

@@ -4,11 +4,11 @@ use Rattle.std.specs.Option.{option_map, IfSome}
 use Rattle.std.specs.declared.result.Result.{Result}
 use Rattle.psi_spec.specs.Placement.{Slot, IsPlacement}
 use Rattle.psi_spec.specs.Words.{word_at}
-use Rattle.psi_base.specs.Outside.{Known, Outside, Files, Reads, Writes, PrintsAll, Opens}
-use Rattle.psi_top.specs.Dialogue.{Dialogue, ReadSo, Talks, good, talked}
+use Rattle.psi_base.specs.Outside.{Known, Outside, Files, Writes, PrintsAll, Opens}
+use Rattle.psi_frames.specs.Dialogue.{Dialogue, ReadSo, Talks, good, talked}
 use Rattle.psi_top.specs.Due.{Contents, told}
 use Rattle.psi_top.specs.Tree.{Effect, says, puts, Placing, Tree, reads, refuses, places, opens, talks, ends, End, stopped}
-use Rattle.psi_top.specs.Walk.{AtCall, AtPlace, AtRefusal, AtEnd, starved, cut, passed, hungry, crowded, placed, given_up, refused, gave_up, all_done, Does, Follows, read_status, write_status, print_status, open_status, talk_status}
+use Rattle.psi_top.specs.Walk.{AtCall, AtPlace, AtRefusal, AtEnd, starved, cut, passed, hungry, crowded, placed, given_up, refused, gave_up, all_done, Does, Follows, Gives, read_status, write_status, print_status, open_status, talk_status}
 use Rattle.psi_top.specs.declared.status.Status.{Status}
 use Rattle.psi_top.proofs.Walked.{told_file}
 
@@ -88,13 +88,13 @@ pub follows_placed : (known : Known) (words : List (List ℕ)) (taken : Bool) (t
     → ArePlacements (told files words) before end.placed tree
 unfolding Follows ArePlacements
 follows_placed known words taken (reads word limit next) files incoming before end is coming h =
-    call_placed taken (Reads known before (word_at words word) limit) (read_status word) (λ slots. ArePlacements (told files words) before slots (reads word limit next)) before end
+    call_placed taken (Gives known before (word_at words word) limit) (read_status word) (λ slots. ArePlacements (told files words) before slots (reads word limit next)) before end
     (λ bytes after. Follows known words taken (next bytes) after end)
     (none_placed (told files words) before (reads word limit next))
     (λ bytes after was more. λ other e.
-    let same : bytes ≡ other = same_some bytes other (sym (told_file before.files files (word_at words word) bytes is was.1) ∙ e) in
+    let same : bytes ≡ other = same_some bytes other (sym (told_file before.files files (word_at words word) bytes is was.1.1) ∙ e) in
     subst (λ (b : List ℕ). ArePlacements (told files words) before end.placed (next b)) same
-    (follows_placed known words taken (next bytes) files incoming before end is coming (subst (λ (o : Outside). Follows known words taken (next bytes) o end) was.3 more)))
+    (follows_placed known words taken (next bytes) files incoming before end is coming (subst (λ (o : Outside). Follows known words taken (next bytes) o end) was.1.3 more)))
     h
 follows_placed known words taken (refuses why) files incoming before end is coming h = refusal_placed taken why before end h
 follows_placed known words taken (places word set next) files incoming before end is coming h =

@@ -14,11 +14,11 @@ use Rattle.psi_base.specs.declared.faults.ReadFault.TheVariants as read
 use Rattle.psi_frames.specs.declared.reasons.BadFrame.{BadFrame}
 use Rattle.psi_frames.specs.declared.turns.EndFault.{EndFault}
 use Rattle.psi_frames.specs.declared.turns.EndFault.TheVariants as peer
-use Rattle.psi_top.specs.Dialogue.{Dialogue, Reading, ReadSo, Talks, good, bad, short, talked}
+use Rattle.psi_frames.specs.Dialogue.{Dialogue, Reading, ReadSo, Talks, good, bad, short, talked}
 use Rattle.psi_top.specs.Due.{Contents, Due, lacks, long, refusal, unplaced, reached, due, told, without, judged, given, heard}
 use Rattle.psi_top.specs.Promises.{Untouched, Stands}
 use Rattle.psi_top.specs.Tree.{Effect, Placing, Tree, reads, refuses, places, opens, talks, ends, End, stopped}
-use Rattle.psi_top.specs.Walk.{AtCall, AtPlace, AtRefusal, starved, cut, passed, hungry, crowded, placed, given_up, refused, IsVerdict, Follows, read_status, open_status, talk_status}
+use Rattle.psi_top.specs.Walk.{AtCall, AtPlace, AtRefusal, starved, cut, passed, hungry, crowded, placed, given_up, refused, IsVerdict, Follows, Gives, read_status, open_status, talk_status}
 use Rattle.psi_top.specs.declared.status.Status.{Status}
 use Rattle.psi_top.specs.declared.status.Status.TheVariants as status
 use Rattle.psi_top.proofs.Standing.{does_stands}
@@ -186,7 +186,7 @@ talk_cut known words d next contents incoming before (peer.PeerEnded offset) aft
 talk_cut known words d next contents incoming before peer.Link after is h =
     early (record { files = ap (λ (o : Outside). o.files) h.why.left; printed = ap (λ (o : Outside). o.printed) h.why.left }) (unlinked refl h.why.rose h.why.unsteady)
 talk_cut known words d next contents incoming before peer.NoMemory after is h =
-    early (starved_talk before (talked before (take h.sent (d.owes h.taken)) h.taken) after (h.sent ≤ d.memory_until) (record { files = refl; printed = refl }) h.why) (wanting refl)
+    early (starved_talk before (talked before (take h.sent (d.owes h.taken)) h.taken) after (h.sent ≤ length (d.owes [])) (record { files = refl; printed = refl }) h.why) (wanting refl)
 
 -- a peer that was heard leads on to what comes next
 heard_leads : (d : Contents → List ℕ → Due) (contents : Contents) (r : Reading) (taken : List ℕ) → r ≡ good taken → Leads (λ c. heard r (d c)) (λ c. d c taken) contents
@@ -232,14 +232,14 @@ pub follows_met : (known : Known) (words : List (List ℕ)) (taken : Bool) (tree
     → Met words (λ c. due c before end.placed tree) (told files words) before end.status end.left
 unfolding Follows OnlyTalked
 follows_met known words taken (reads word limit next) files incoming before end is coming h =
-    call_met taken (Reads known before (word_at words word) limit) (read_status word) words (λ slots c. judged word limit (c word) (λ bytes. due c before slots (next bytes)))
+    call_met taken (Gives known before (word_at words word) limit) (read_status word) words (λ slots c. judged word limit (c word) (λ bytes. due c before slots (next bytes)))
     (told files words) before end (λ bytes after. Follows known words taken (next bytes) after end)
     (λ why after cut_off. read_cut known words word limit (λ c bytes. due c before [] (next bytes)) files before why after is cut_off)
     (λ bytes after was more.
     carry words (λ c. judged word limit (c word) (λ bytes. due c before end.placed (next bytes))) (λ c. due c before end.placed (next bytes)) (told files words) before before end.status end.left
-    (read_leads (λ c bytes. due c before end.placed (next bytes)) (told files words) word limit bytes (told_file before.files files (word_at words word) bytes is was.1) was.0)
+    (read_leads (λ c bytes. due c before end.placed (next bytes)) (told files words) word limit bytes (told_file before.files files (word_at words word) bytes is was.1.1) was.1.0)
     refl
-    (follows_met known words taken (next bytes) files incoming before end is coming (subst (λ (o : Outside). Follows known words taken (next bytes) o end) was.3 more)))
+    (follows_met known words taken (next bytes) files incoming before end is coming (subst (λ (o : Outside). Follows known words taken (next bytes) o end) was.1.3 more)))
     h
 follows_met known words taken (refuses why) files incoming before end is coming h = refusal_met words taken why (told files words) before end h
 follows_met known words taken (places word set next) files incoming before end is coming h =

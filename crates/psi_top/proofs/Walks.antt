@@ -1,9 +1,13 @@
 -- Steps from what their functions answer.
 use Rattle.std.proofs.Common.{◌≡◌, ℕ, Bool, false, List, [], ◌∷◌, Option, None, Ok, Err, IsErrAnd, refl, sym, subst}
 use Rattle.std.specs.declared.result.Result.{Result}
+use Rattle.psi_spec.specs.Frames.{AreBytes}
 use Rattle.psi_base.specs.Outside.{Known, Outside}
 use Rattle.psi_top.specs.Tree.{Tree, reads, refuses, places, opens, talks, ends, Effect, says, puts, decides, End, stopped, end_of}
-use Rattle.psi_top.specs.Walk.{starved, hungry, given_up, refused, gave_up, all_done, IsVerdict, Does, Follows, Runs, Settles, Steps}
+use Rattle.psi_frames.specs.Converse.{Converses}
+use Rattle.psi_frames.specs.Script.{Script, dialogue_of}
+use Rattle.psi_frames.specs.declared.turns.EndFault.{EndFault}
+use Rattle.psi_top.specs.Walk.{StepsTalk, cut, passed, talk_status, starved, hungry, given_up, refused, gave_up, all_done, IsVerdict, Does, Follows, Runs, Settles, Steps, StepsRead}
 use Rattle.psi_top.specs.declared.status.Outcome.{Outcome}
 use Rattle.psi_top.specs.declared.status.Status.{Status}
 use Rattle.psi_top.specs.declared.status.Status.TheVariants as status
@@ -50,12 +54,12 @@ settled due (Err why) h known words before = is_refused due why h.0 h.1 known wo
 -- a file that was read and judged
 pub then_judged : {A : Type 0} (known : Known) (words : List (List ℕ)) (word limit : ℕ) (judge : List ℕ → Result A Status)
     (before after : Outside) (bytes : List ℕ) (result : Result A Status)
-    → Steps known words (reads word limit) before (Ok bytes) after → Settles (judge bytes) result
+    → StepsRead known words word limit before (Ok bytes) after → AreBytes bytes → Settles (judge bytes) result
     → Steps known words (λ next. reads word limit (λ bytes. decides (judge bytes) next)) before result after
-then_judged known words word limit judge before after bytes (Ok x) read h = λ next end later.
-    read (λ bytes. decides (judge bytes) next) end (settled (judge bytes) (Ok x) h known words after next end later)
-then_judged known words word limit judge before after bytes (Err why) read h = λ next.
-    read (λ bytes. decides (judge bytes) next) (stopped why after) (settled (judge bytes) (Err why) h known words after next)
+then_judged known words word limit judge before after bytes (Ok x) read are_bytes h = λ next end later.
+    read are_bytes (λ bytes. decides (judge bytes) next) end (settled (judge bytes) (Ok x) h known words after next end later)
+then_judged known words word limit judge before after bytes (Err why) read are_bytes h = λ next.
+    read are_bytes (λ bytes. decides (judge bytes) next) (stopped why after) (settled (judge bytes) (Err why) h known words after next)
 
 -- a run of which all is done
 pub ends_done : (known : Known) (words : List (List ℕ)) (taken : Bool) (before : Outside)
@@ -77,6 +81,17 @@ decides_ok x next = refl
 pub settles_out : {A : Type 0} (known : Known) (words : List (List ℕ)) (due : Result A Status) (next : A → Tree)
     (before : Outside) (why : Status) → Settles due (Err why) → Runs known words (decides due next) before (stopped why before)
 settles_out known words due next before why h = settled due (Err why) h known words before next
+
+-- a session that was done, and one that ended early
+pub talks_on : (known : Known) (words : List (List ℕ)) (script : Script) (before after : Outside) (x : Unit {0})
+    → Converses known script before (Ok x) after → StepsTalk known words (dialogue_of script) before (Ok x) after
+unfolding Follows
+talks_on known words script before after x h = λ next end later. passed h.0 after h.1 (later h.0)
+
+pub talks_out : (known : Known) (words : List (List ℕ)) (script : Script) (before after : Outside) (why : EndFault)
+    → Converses known script before (Err why) after → StepsTalk known words (dialogue_of script) before (Err (talk_status why)) after
+unfolding Follows
+talks_out known words script before after why h = λ next. cut why after h refl
 
 -- what every exit of a command may cite
 pub ruleset walk = (starves, starves_out, ends_done, decides_ok, settles_out)

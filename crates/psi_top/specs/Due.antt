@@ -3,7 +3,7 @@ use Rattle.std.specs.Prelude.{◌==◌, ℕ, List, [], ◌∷◌, Option, Some, 
 use Rattle.psi_spec.specs.Placement.{Slot}
 use Rattle.psi_spec.specs.Words.{word_at}
 use Rattle.psi_base.specs.Outside.{Outside, Files, printed_too, written, partly_written}
-use Rattle.psi_top.specs.Dialogue.{Reading, good, bad, short, talked}
+use Rattle.psi_frames.specs.Dialogue.{Reading, good, bad, short, talked}
 use Rattle.psi_top.specs.Tree.{Effect, says, puts, Placing, Tree, reads, refuses, places, opens, talks, ends}
 use Rattle.psi_top.specs.declared.status.Status.{Status}
 use Rattle.psi_top.specs.declared.status.Status.TheVariants.{BadFrame, PeerEnded}

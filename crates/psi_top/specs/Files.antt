@@ -2,10 +2,14 @@
 use Rattle.std.specs.Prelude.{ℕ, List, Option, None, Some, Result, Ok, Err}
 use Rattle.psi_spec.specs.Items.{BadLine, items_of, first_bad}
 use Rattle.psi_spec.specs.Limits.{file_limit}
+use Rattle.psi_spec.specs.DealFiles.{sender_of, sender_size}
+use Rattle.psi_spec.specs.Deals.{SenderDeal}
+use Rattle.psi_deal.specs.BadDeals.{bad_deal}
+use Rattle.psi_deal.specs.declared.errors.BadDeal.{BadDeal as DealFault}
 use Rattle.psi_items.specs.Reading.{bad_items_of}
 use Rattle.psi_top.specs.Tree.{Tree, reads, decides}
 use Rattle.psi_top.specs.declared.status.Status.{Status}
-use Rattle.psi_top.specs.declared.status.Status.TheVariants.{BadItems}
+use Rattle.psi_top.specs.declared.status.Status.TheVariants.{BadDeal, BadItems}
 
 -- the items of the file of a word, or the fault of its first bad line
 abbrev pub judged_items : ℕ → List ℕ → Option BadLine → Result (List (List ℕ)) Status
@@ -18,3 +22,15 @@ items_in word bytes = judged_items word bytes (first_bad bytes)
 -- the steps that read the item file of a word and judge it
 unfoldable pub reads_items : ℕ → (List (List ℕ) → Tree) → Tree
 reads_items word next = reads word file_limit (λ bytes. decides (items_in word bytes) next)
+
+-- the sender's deal that the file of a word spells, or why it is none
+abbrev pub judged_sender : ℕ → List ℕ → Option DealFault → Result SenderDeal Status
+judged_sender word bytes None = Ok (sender_of bytes)
+judged_sender word bytes (Some fault) = Err (BadDeal word fault)
+
+unfoldable pub sender_in : ℕ → List ℕ → Result SenderDeal Status
+sender_in word bytes = judged_sender word bytes (bad_deal 1 sender_size bytes)
+
+-- the steps that read the sender's deal file of a word and judge it
+unfoldable pub reads_sender : ℕ → (SenderDeal → Tree) → Tree
+reads_sender word next = reads word file_limit (λ bytes. decides (sender_in word bytes) next)

@@ -3,7 +3,7 @@ use Rattle.std.specs.Prelude.{ℕ, List, map, Option, Some, None, codes, if◌th
 use Rattle.std.specs.Str.{bytes_eq}
 use Rattle.psi_spec.specs.Words.{Form as Test, Forms, alone, are_sizes, is_name, is_output, is_seed, is_session, is_tag_length, word_at}
 use Rattle.psi_top.specs.declared.form.Command.{Command}
-use Rattle.psi_top.specs.declared.form.Command.TheVariants.{Deal, Local}
+use Rattle.psi_top.specs.declared.form.Command.TheVariants.{Deal, Local, Send}
 use Rattle.psi_top.specs.declared.form.CommandForms.{CommandForms}
 use Rattle.psi_top.specs.declared.form.Form.{Form}
 use Rattle.psi_top.specs.declared.form.Form.TheVariants.{Name, Output, Seed, Session, Sizes, TagLength}
@@ -29,10 +29,12 @@ forms_seen forms = record { needed = tests_of forms.needed.now; optional = tests
 abbrev pub name_of : Command → List ℕ
 name_of Deal = codes "deal"
 name_of Local = codes "local"
+name_of Send = codes "send"
 
 -- the command that the first word names
 abbrev pub command_of : List (List ℕ) → Option Command
 command_of words =
     if bytes_eq (word_at words 0) (codes "local") then Some Local
     else if bytes_eq (word_at words 0) (codes "deal") then Some Deal
+    else if bytes_eq (word_at words 0) (codes "send") then Some Send
     else None

@@ -1,13 +1,15 @@
 pub mod Commands
 pub mod Comparing
 pub mod Deal
-pub mod Dialogue
 pub mod Due
 pub mod Files
 pub mod Form
+pub mod JudgedFiles
 pub mod Local
 pub mod LocalPromises
 pub mod Promises
+pub mod Send
+pub mod SendPromises
 pub mod Session
 pub mod Texts
 pub mod Tree

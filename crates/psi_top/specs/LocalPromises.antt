@@ -1,38 +1,18 @@
 -- What callers read of `local`, in its own words.
 use Rattle.std.specs.Prelude.{◌≡◌, ◌<◌, ◌≤◌, ◌⊎◌, ℕ, List, Contains, length, map, Some, None}
-use Rattle.psi_spec.specs.Items.{BadLine, first_bad, items_of}
 use Rattle.psi_spec.specs.Limits.{bins_for, file_limit, usual_stash}
 use Rattle.psi_spec.specs.Meeting.{Placed, SharesTag, shown, shown_placed}
 use Rattle.psi_spec.specs.Placement.{IsPlacementOf}
 use Rattle.psi_spec.specs.Texts.{lines_text}
 use Rattle.psi_spec.specs.Words.{bad_word}
 use Rattle.psi_base.specs.Outside.{Known, Outside, printed_too}
-use Rattle.psi_items.specs.Reading.{bad_items_of}
-use Rattle.psi_items.specs.declared.errors.BadItems.{BadItems}
 use Rattle.psi_top.specs.Form.{command_of}
+use Rattle.psi_top.specs.JudgedFiles.{HasBadLine, HasItems}
 use Rattle.psi_top.specs.Local.{local_receiver, local_setup, local_slots, most_local}
-use Rattle.psi_top.specs.Promises.{WasRead}
 use Rattle.psi_top.specs.Tree.{End}
 use Rattle.psi_top.specs.declared.form.Command.TheVariants.{Local}
 use Rattle.psi_top.specs.declared.status.Status.{Status}
 use Rattle.psi_top.specs.declared.status.Status.TheVariants.{Done, BadItems as RefusedItems, FileFault, PrintFault, TooLong, LargeSet, NoMemory}
-
--- the item file of a word was read and has no line with a fault, and these are its items
-pub record HasItems (known : Known) (words : List (List ℕ)) (before : Outside) (word : ℕ) (items : List (List ℕ))
-    : Type 0 where
-  pub bytes : List ℕ
-  pub read : WasRead known words before word file_limit bytes
-  pub good : first_bad bytes ≡ None
-  pub listed : items ≡ items_of bytes
-
--- the item file of a word was read and has a line with a fault, of which the first is this
-pub record HasBadLine (known : Known) (words : List (List ℕ)) (before : Outside) (word : ℕ) (fault : BadItems)
-    : Type 0 where
-  pub bytes : List ℕ
-  pub read : WasRead known words before word file_limit bytes
-  pub line : BadLine
-  pub bad : first_bad bytes ≡ Some line
-  pub named : fault ≡ bad_items_of line
 
 -- a fact on the first item file, or on the second where the first has items
 abbrev pub OnFirstOrSecond : Known → List (List ℕ) → Outside → (ℕ → Type 0) → Type 0

@@ -1,11 +1,13 @@
 -- What callers read from how a run followed its tree.
-use Rattle.std.specs.Prelude.{◌≡◌, ◌<◌, ◌≤◌, ◌⊎◌, ℕ, List, [], ◌∷◌, Option, Some, None, Bool, IsTrue, true, false, length, take, slice_get}
+use Rattle.std.specs.Prelude.{◌≡◌, ◌<◌, ◌≤◌, ◌⊎◌, ℕ, List, [], ◌∷◌, Option, Some, None, Err, Bool, IsTrue, true, false, length, take, slice_get}
+use Rattle.psi_spec.specs.Frames.{AreBytes}
 use Rattle.psi_spec.specs.CrowdedLists.{IsCrowded, touched_by}
 use Rattle.psi_spec.specs.Placement.{Slot, IsPlacement}
 use Rattle.psi_spec.specs.Words.{bad_word, word_at}
-use Rattle.psi_base.specs.Outside.{Known, Outside, Files, HasFile, LacksFile, Rose}
+use Rattle.psi_base.specs.Outside.{Known, Outside, Files, HasFile, LacksFile, LinkFailed, Rose}
+use Rattle.psi_frames.specs.declared.turns.EndFault.TheVariants as peer
 use Rattle.psi_top.specs.Commands.{tree_of}
-use Rattle.psi_top.specs.Dialogue.{Dialogue, ReadSo, WereTaken, good, bad, short, talked}
+use Rattle.psi_frames.specs.Dialogue.{Dialogue, CutOff, HeardBad, HeardShort, ReadSo, Talks, WereTaken, good, talked}
 use Rattle.psi_top.specs.Due.{Contents, Due, lacks, long, refusal, unplaced, reached, due, told, without, after_effects, after_part}
 use Rattle.psi_top.specs.Form.{command_of}
 use Rattle.psi_top.specs.Tree.{Effect, says, puts, Placing, Tree, reads, refuses, places, opens, talks, ends, End}
@@ -71,6 +73,7 @@ pub record WasRead (known : Known) (words : List (List ℕ)) (before : Outside) 
     : Type 0 where
   pub file : HasFile before.files (word_at words word) bytes
   pub given : known.gives (word_at words word) bytes
+  pub are_bytes : AreBytes bytes
   pub short : length bytes ≤ limit
 
 -- the statuses of a file that was not read
@@ -87,50 +90,66 @@ IsNotPlaced word set (NoPlacement place items touched) =
 IsNotPlaced word set NoMemory = Unit {0}
 IsNotPlaced word set _ = ⊥
 
--- the statuses of a session that was cut off
-abbrev pub IsNotTalked : Known → Dialogue → Outside → Status → Type 0
-IsNotTalked known d before (BadFrame frame) =
-    (taken : List ℕ) × WereTaken known before.incoming taken × ReadSo d before.incoming taken (bad frame)
-IsNotTalked known d before (PeerEnded offset) =
-    (taken : List ℕ) × WereTaken known before.incoming taken × ReadSo d before.incoming taken (short offset)
-IsNotTalked known d before LinkFault = Unit {0}
-IsNotTalked known d before NoMemory = Unit {0}
-IsNotTalked known d before _ = ⊥
+-- nothing was sent or taken over the link
+pub record IsSilent (before after : Outside) : Type 0 where
+  pub incoming : after.incoming ≡ before.incoming
+  pub outgoing : after.outgoing ≡ before.outgoing
 
--- the statuses of an end: a print can fail where a text is to be printed, and a write where that file is to be written
+-- the statuses of a session that was cut off, with what was taken and sent at each; want of memory may come before it
+abbrev pub IsNotTalked : Known → Dialogue → Outside → Status → Outside → Type 0
+IsNotTalked known d before (BadFrame frame) after = HeardBad known d before frame after
+IsNotTalked known d before (PeerEnded offset) after = HeardShort known d before offset after
+IsNotTalked known d before LinkFault after = CutOff known d before (λ sent mid. LinkFailed mid after)
+IsNotTalked known d before NoMemory after = (after ≡ before) ⊎ Talks known d before (Err peer.NoMemory) after
+IsNotTalked known d before _ after = ⊥
+
+-- the statuses of an end: a print can fail where a text is to be printed, and a write where that file is to be written;
+-- once all memory is taken, only these can want any
 abbrev pub IsOfEffect : Status → Effect → Type 0
 IsOfEffect PrintFault (says text) = Unit {0}
 IsOfEffect (FileFault place) (puts word bytes) = place ≡ word
 IsOfEffect why effect = ⊥
 
-abbrev pub IsOfEnd : Status → List Effect → Type 0
-IsOfEnd Done effects = Unit {0}
-IsOfEnd NoMemory effects = Unit {0}
-IsOfEnd why effects = (at : ℕ) × (effect : Effect) × (slice_get effects at ≡ Some effect) × IsOfEffect why effect
+abbrev pub IsOfEnd : Bool → Status → List Effect → Type 0
+IsOfEnd taken Done effects = Unit {0}
+IsOfEnd taken NoMemory effects =
+    (taken ≡ false) ⊎ ((at : ℕ) × (effect : Effect) × (slice_get effects at ≡ Some effect))
+IsOfEnd taken why effects =
+    (at : ℕ) × (effect : Effect) × (slice_get effects at ≡ Some effect) × IsOfEffect why effect
 
--- the tree comes to a step that answers this status, along contents that reads gave, placements and bytes of a peer
-abbrev pub IsAnswered : Known → List (List ℕ) → Tree → Outside → Status → Type 0
-IsAnswered known words (reads word limit next) before why =
-    IsUnread word limit why
-    ⊎ ((bytes : List ℕ) × WasRead known words before word limit bytes × IsAnswered known words (next bytes) before why)
-IsAnswered known words (refuses verdict) before why = (why ≡ NoMemory) ⊎ ((why ≡ verdict) × IsVerdict verdict)
-IsAnswered known words (places word set next) before why =
-    IsNotPlaced word set why
+-- once all memory is taken, it is wanting only where a refusal of the outside was counted
+abbrev pub IsHungry : Bool → Outside → Status → Outside → Type 0
+IsHungry taken before NoMemory after = (taken ≡ false) ⊎ Rose before.refusals after.refusals
+IsHungry taken before _ after = Unit {0}
+
+-- the tree comes to a step that answers this status, along contents that reads gave, placements and bytes of a peer;
+-- and no more was sent or taken than along it
+abbrev pub IsAnswered : Known → List (List ℕ) → Bool → Tree → Outside → Status → Outside → Type 0
+IsAnswered known words taken (reads word limit next) before why after =
+    (IsUnread word limit why × IsSilent before after)
+    ⊎ ((bytes : List ℕ) × WasRead known words before word limit bytes
+    × IsAnswered known words taken (next bytes) before why after)
+IsAnswered known words taken (refuses verdict) before why after =
+    ((why ≡ NoMemory) ⊎ ((why ≡ verdict) × IsVerdict verdict)) × IsSilent before after
+IsAnswered known words taken (places word set next) before why after =
+    (IsNotPlaced word set why × IsSilent before after)
     ⊎ ((slots : List Slot) × IsPlacement set.stash set.bins set.candidates slots
-    × IsAnswered known words (next slots) before why)
-IsAnswered known words (opens next) before why =
-    ((why ≡ LinkFault) ⊎ (why ≡ NoMemory)) ⊎ IsAnswered known words next (record before { ready = true }) why
-IsAnswered known words (talks d next) before why =
-    IsNotTalked known d before why
-    ⊎ ((taken : List ℕ) × WereTaken known before.incoming taken × ReadSo d before.incoming taken (good taken)
-    × IsAnswered known words (next taken) (talked before (d.owes taken) taken) why)
-IsAnswered known words (ends wire effects) before why = IsOfEnd why effects
+    × IsAnswered known words taken (next slots) before why after)
+IsAnswered known words taken (opens next) before why after =
+    (((why ≡ LinkFault) ⊎ (why ≡ NoMemory)) × IsSilent before after)
+    ⊎ IsAnswered known words taken next (record before { ready = true }) why after
+IsAnswered known words taken (talks d next) before why after =
+    IsNotTalked known d before why after
+    ⊎ ((bytes : List ℕ) × WereTaken known before.incoming bytes × ReadSo d before.incoming bytes (good bytes)
+    × IsAnswered known words true (next bytes) (talked before (d.owes bytes) bytes) why after)
+IsAnswered known words taken (ends wire effects) before why after =
+    IsOfEnd taken why effects × IsSilent before after × IsHungry taken before why after
 
 -- the same of a command
-abbrev pub IsOfCommand : Known → List (List ℕ) → Outside → Status → Type 0
-IsOfCommand known words before why =
+abbrev pub IsOfCommand : Known → List (List ℕ) → Outside → Status → Outside → Type 0
+IsOfCommand known words before why after =
     (command : Command) → bad_word words ≡ None → command_of words ≡ Some command
-    → IsAnswered known words (tree_of command words) before why
+    → IsAnswered known words false (tree_of command words) before why after
 
 -- ---- refusals, where the files and the incoming bytes are told
 

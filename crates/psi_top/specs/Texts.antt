@@ -2,16 +2,19 @@
 use Rattle.std.specs.Prelude.{ℕ, List, [], ◌++◌, codes, decimal, length}
 use Rattle.psi_items.specs.declared.errors.BadItems.{BadItems}
 use Rattle.psi_items.specs.declared.errors.BadItems.TheVariants as items
+use Rattle.psi_deal.specs.declared.errors.BadDeal.{BadDeal}
+use Rattle.psi_deal.specs.declared.errors.BadDeal.TheVariants as deal
 use Rattle.psi_frames.specs.Expected.{number_of_reason}
 use Rattle.psi_frames.specs.declared.reasons.BadFrame.{BadFrame as RefusedFrame}
 use Rattle.psi_top.specs.declared.status.Status.{Status}
-use Rattle.psi_top.specs.declared.status.Status.TheVariants.{Done, BadWords, BadItems as RefusedItems, NoPlacement, BadFrame, PeerEnded, FileFault, LinkFault, PrintFault, TooLong, LargeSet, NoMemory}
+use Rattle.psi_top.specs.declared.status.Status.TheVariants.{Done, BadWords, BadItems as RefusedItems, BadDeal as RefusedDeal, NoPlacement, BadFrame, PeerEnded, FileFault, LinkFault, PrintFault, TooLong, LargeSet, NoMemory}
 
 -- the number of a status
 abbrev pub number_of_status : Status → ℕ
 number_of_status Done = 0
 number_of_status (BadWords at) = 2
 number_of_status (RefusedItems word fault) = 3
+number_of_status (RefusedDeal word fault) = 4
 number_of_status (NoPlacement word items touched) = 5
 number_of_status (BadFrame frame) = 6
 number_of_status (PeerEnded offset) = 7
@@ -42,6 +45,17 @@ items_text word (items.Long line length) =
 items_text word (items.Many line) = line_front word line ++ codes "too many items\n"
 items_text word items.NoMemory = no_memory_text
 
+-- the line of a fault of a deal file
+abbrev pub deal_text : ℕ → BadDeal → List ℕ
+deal_text word deal.Magic = word_front word ++ codes "not a deal file\n"
+deal_text word (deal.Version found) = word_front word ++ codes "deal version " ++ decimal found ++ codes "\n"
+deal_text word (deal.Role found) = word_front word ++ codes "deal role " ++ decimal found ++ codes "\n"
+deal_text word (deal.Length found) = word_front word ++ codes "deal length " ++ decimal found ++ codes "\n"
+deal_text word (deal.TagBytes found) = word_front word ++ codes "deal tag bytes " ++ decimal found ++ codes "\n"
+deal_text word (deal.StashRows found) = word_front word ++ codes "deal stash " ++ decimal found ++ codes "\n"
+deal_text word deal.Seal = word_front word ++ codes "deal seal\n"
+deal_text word deal.NoMemory = no_memory_text
+
 -- the line of a file that is too long
 abbrev pub too_long_text : ℕ → ℕ → List ℕ
 too_long_text word taken = word_front word ++ codes "too long after " ++ decimal taken ++ codes " bytes\n"
@@ -63,6 +77,7 @@ abbrev pub fault_text : Status → List ℕ
 fault_text Done = []
 fault_text (BadWords at) = codes "psi: bad word at " ++ decimal at ++ codes "\n"
 fault_text (RefusedItems word fault) = items_text word fault
+fault_text (RefusedDeal word fault) = deal_text word fault
 fault_text (NoPlacement word items touched) = crowded_text word (length items) touched
 fault_text (BadFrame frame) = frame_text frame
 fault_text (PeerEnded offset) = codes "psi: peer ended at " ++ decimal offset ++ codes "\n"

@@ -2,7 +2,7 @@
 use Rattle.std.specs.Prelude.{ℕ, List, ◌∷◌, [], Option, None, Result, Ok, Err}
 use Rattle.psi_spec.specs.Placement.{Slot}
 use Rattle.psi_base.specs.Outside.{Outside}
-use Rattle.psi_top.specs.Dialogue.{Dialogue}
+use Rattle.psi_frames.specs.Dialogue.{Dialogue}
 use Rattle.psi_top.specs.declared.status.Status.{Status}
 use Rattle.psi_top.specs.declared.status.Outcome.{Outcome}
 

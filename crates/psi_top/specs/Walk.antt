@@ -1,5 +1,6 @@
 -- How a run follows a tree of steps.
 use Rattle.std.specs.Prelude.{◌≡◌, ℕ, Bool, true, false, List, ◌∷◌, [], Option, Result, Ok, Err}
+use Rattle.psi_spec.specs.Frames.{AreBytes}
 use Rattle.psi_spec.specs.CrowdedLists.{IsCrowded, touched_by}
 use Rattle.psi_spec.specs.Placement.{Slot, IsPlacement}
 use Rattle.psi_spec.specs.Words.{word_at}
@@ -10,7 +11,7 @@ use Rattle.psi_base.specs.declared.faults.ReadFault.{ReadFault}
 use Rattle.psi_base.specs.declared.faults.ReadFault.TheVariants as read
 use Rattle.psi_frames.specs.declared.turns.EndFault.{EndFault}
 use Rattle.psi_frames.specs.declared.turns.EndFault.TheVariants as peer
-use Rattle.psi_top.specs.Dialogue.{Talks}
+use Rattle.psi_frames.specs.Dialogue.{Dialogue, Talks}
 use Rattle.psi_top.specs.Tree.{Effect, says, puts, Placing, Tree, reads, refuses, places, opens, talks, ends, End, stopped, with_slots}
 use Rattle.psi_top.specs.declared.status.Status.{Status}
 use Rattle.psi_top.specs.declared.status.Status.TheVariants as status
@@ -42,8 +43,14 @@ talk_status peer.NoMemory = status.NoMemory
 -- the statuses by which contents of files are refused
 abbrev pub IsVerdict : Status → Type 0
 IsVerdict (status.BadItems word why) = Unit {0}
+IsVerdict (status.BadDeal word why) = Unit {0}
 IsVerdict (status.LargeSet count) = Unit {0}
 IsVerdict _ = ⊥
+
+-- what a read of a file may answer and leave: what it gives are bytes
+abbrev pub Gives : Known → Outside → List ℕ → ℕ → Result (List ℕ) ReadFault → Outside → Type 0
+Gives known old name max (Ok bytes) new = AreBytes bytes × Reads known old name max (Ok bytes) new
+Gives known old name max (Err why) new = Reads known old name max (Err why) new
 
 -- a run at a call of the outside: memory was wanting before it, unless all was taken; the call was refused; or it was
 -- answered, and the run went on
@@ -87,7 +94,7 @@ Does words taken wire (puts word bytes ∷ rest) before end =
 -- a run of a command with these words, from this outside on; once a session was run, all memory is taken
 unfoldable pub Follows : Known → List (List ℕ) → Bool → Tree → Outside → End → Type 0
 Follows known words taken (reads word limit next) before end =
-    AtCall taken (Reads known before (word_at words word) limit) (read_status word) before end
+    AtCall taken (Gives known before (word_at words word) limit) (read_status word) before end
     (λ bytes after. Follows known words taken (next bytes) after end)
 Follows known words taken (refuses verdict) before end = AtRefusal taken verdict before end
 Follows known words taken (places word set next) before end =
@@ -111,6 +118,27 @@ Steps known words step before (Ok x) after =
     (next : _ → Tree) (end : End) → Runs known words (next x) after end → Runs known words (step next) before end
 Steps known words step before (Err why) after =
     (next : _ → Tree) → Runs known words (step next) before (stopped why after)
+
+-- what a step may answer and leave that reads a file: what it gives are bytes, which whoever judges them knows
+abbrev pub StepsRead : Known → List (List ℕ) → ℕ → ℕ → Outside → Result (List ℕ) Status → Outside → Type 0
+StepsRead known words word limit before (Ok bytes) after =
+    AreBytes bytes → Steps known words (reads word limit) before (Ok bytes) after
+StepsRead known words word limit before (Err why) after = Steps known words (reads word limit) before (Err why) after
+
+-- what a step may answer and leave that opens the link
+abbrev pub StepsOpen : Known → List (List ℕ) → Outside → Result (Unit {0}) Status → Outside → Type 0
+StepsOpen known words before (Ok _) after =
+    (next : Tree) (end : End) → Runs known words next after end → Runs known words (opens next) before end
+StepsOpen known words before (Err why) after = (next : Tree) → Runs known words (opens next) before (stopped why after)
+
+-- what a step may answer and leave that runs a session: with all memory taken the run goes on, whatever the bytes that
+-- were taken
+abbrev pub StepsTalk : Known → List (List ℕ) → Dialogue → Outside → Result (Unit {0}) Status → Outside → Type 0
+StepsTalk known words d before (Ok _) after =
+    (next : List ℕ → Tree) (end : End) → ((taken : List ℕ) → Follows known words true (next taken) after end)
+    → Runs known words (talks d next) before end
+StepsTalk known words d before (Err why) after =
+    (next : List ℕ → Tree) → Runs known words (talks d next) before (stopped why after)
 
 -- what a step may answer and leave that prints a text or writes a file
 abbrev pub Makes : Known → List (List ℕ) → Bool → Effect → Outside → Result (Unit {0}) Status → Outside → Type 0

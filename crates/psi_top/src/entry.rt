@@ -5,11 +5,13 @@ ghost use Rattle.psi_top.specs.Commands.{Answers};
 ghost use Rattle.psi_top.specs.Deal.{DealWrites};
 ghost use Rattle.psi_top.specs.LocalPromises.{IsOfLocal, LocalShows};
 ghost use Rattle.psi_top.specs.Promises.{Completes, CountsBy, DoneLeaves, IsBadWords, IsDue, IsOfCommand, OnTold, RunsThrough, StandsAt};
+ghost use Rattle.psi_top.specs.SendPromises.{IsOfSend, SendServes};
 ghost use Rattle.psi_top.specs.Tree.{ended};
 
 use crate::deal::deal_command;
 use crate::form::{Command, bad_word, named_command};
 use crate::local::local_command;
+use crate::send::send_command;
 use crate::status::{Outcome, Status};
 use psi_base::{Words, World};
 use std::alloc::Global;
@@ -26,6 +28,7 @@ fn answer<W: World>(alloc: Global, words: &Words, world: &mut W) -> Outcome
     match named_command(words) {
         Some(Command::Deal) => deal_command(alloc, words, world),
         Some(Command::Local) => local_command(alloc, words, world),
+        Some(Command::Send) => send_command(alloc, words, world),
         None => Outcome {
             status: Status::BadWords { at: 0 },
         },
@@ -44,8 +47,9 @@ pub fn run<W: World>(alloc: Global, words: &Words, world: &mut W) -> Outcome
     // but that of a missing file, and no other count changes.
     ensures counts { CountsBy words.now (W.outside world.old) result.status (W.outside world.new) (bad_word words.now) }
 
-    // In every world there are contents, each given by a read of the file of its word, for which the status follows.
-    ensures status { IsOfCommand W.known words.now (W.outside world.old) result.status }
+    // In every world there are contents, each given by a read of the file of its word, for which the status follows,
+    // and what was sent and taken over the link.
+    ensures status { IsOfCommand W.known words.now (W.outside world.old) result.status (W.outside world.new) }
 
     // Where the contents are told, each refusal comes only where it is due, in the order of the steps.
     ensures exact { OnTold words.now (W.outside world.old) [] (IsDue result.status) }
@@ -72,6 +76,14 @@ pub fn run<W: World>(alloc: Global, words: &Words, world: &mut W) -> Outcome
 
     // `local` prints every common item, and each other printed item shares its tag with a named sender item.
     ensures shown { LocalShows W.known words.now (W.outside world.old) (ended result (W.outside world.new)) }
+
+    // What `send` may answer, in its own words: its files are judged in order, then the link is opened, and then the
+    // session is run. Where it is done it took a receiver's stream, and sent the sender's for it.
+    ensures send { IsOfSend W.known words.now (W.outside world.old) (ended result (W.outside world.new)) }
+
+    // From valid files and a peer whose bytes begin with a receiver's stream, `send` is done where no fault was counted
+    // or the world is steady, or memory was wanting.
+    ensures served { SendServes words.now (W.outside world.old) (ended result (W.outside world.new)) }
 {
     answer(alloc, words, world)
 }

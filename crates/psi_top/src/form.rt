@@ -13,12 +13,14 @@ pub enum Command {
     Deal,
     /// Both ends of a session in one run.
     Local,
+    /// The sender's end of a session.
+    Send,
 }
 
 /// The form that a word must have.
 #[derive(Clone, Copy, Debug, PartialEq, Eq)]
 pub enum Form {
-    /// The name of a file: any text but the empty one.
+    /// The name of a file, or an address: any text but the empty one.
     Name,
     /// The name of a file that is written: none of the names of files at the places from `from` up to, and without,
     /// `to`.
@@ -70,6 +72,10 @@ impl Command {
                     Form::Session,
                     Form::TagLength,
                 ],
+                optional: &[],
+            },
+            Command::Send => CommandForms {
+                needed: &[Form::Name, Form::Name, Form::Name],
                 optional: &[],
             },
         }
@@ -128,6 +134,8 @@ pub fn named_command(words: &Words) -> Option<Command>
         Some(Command::Local)
     } else if name == "deal" {
         Some(Command::Deal)
+    } else if name == "send" {
+        Some(Command::Send)
     } else {
         None
     }

@@ -6,6 +6,7 @@ ghost use Rattle.psi_top.specs.Tree.{end_of, ended};
 ghost use Rattle.psi_top.specs.declared.status.Status.TheVariants as status;
 
 use psi_base::{NoMemory, Places};
+use psi_deal::BadDeal;
 use psi_frames::BadFrame;
 use psi_items::BadItems;
 use std::alloc::AllocError;
@@ -24,6 +25,11 @@ pub enum Status {
         word: u8,
         fault: BadItems,
     },
+    /// The file that this word names is no deal file of the end that reads it. The fault is never want of memory.
+    BadDeal {
+        word: u8,
+        fault: BadDeal,
+    },
     /// The set of the file that this word names has no placement: these items, by their places and rising, name only
     /// `touched` bins, and are more than these and the rows of the stash. No command places a set yet.
     NoPlacement {
@@ -31,10 +37,9 @@ pub enum Status {
         items: Places,
         touched: u32,
     },
-    /// The peer sent a frame that is refused. No command has a peer yet.
+    /// The peer sent a frame that is refused.
     BadFrame(BadFrame),
-    /// The peer sent no more, where the frame that begins at `offset` of its bytes was due. No command has a peer
-    /// yet.
+    /// The peer sent no more, where the frame that begins at `offset` of its bytes was due.
     PeerEnded {
         offset: u64,
     },
@@ -42,7 +47,7 @@ pub enum Status {
     FileFault {
         word: u8,
     },
-    /// The link could not be opened, or failed. No command opens it yet.
+    /// The link could not be opened, or failed.
     LinkFault,
     /// The text could not be printed whole.
     PrintFault,
@@ -101,6 +106,7 @@ pub fn status_number(status: &Status) -> u8
         Status::Done => 0,
         Status::BadWords { .. } => 2,
         Status::BadItems { .. } => 3,
+        Status::BadDeal { .. } => 4,
         Status::NoPlacement { .. } => 5,
         Status::BadFrame(_) => 6,
         Status::PeerEnded { .. } => 7,

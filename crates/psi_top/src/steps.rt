@@ -1,14 +1,18 @@
 // The steps of the commands.
-ghost use Rattle.std.specs.Prelude.{◌≡◌, ◌≤◌, Bool, List, ℕ, IfOk, length};
+ghost use Rattle.std.specs.Prelude.{◌≡◌, ◌≤◌, Bool, List, ℕ, IfOk, IsTrue, OnOk, length};
+ghost use Rattle.psi_spec.specs.Deals.{IsSenderDeal};
+ghost use Rattle.psi_spec.specs.Frames.{AreBytes};
 ghost use Rattle.psi_spec.specs.Limits.{file_limit};
 ghost use Rattle.psi_base.specs.Outside.{as_list};
-ghost use Rattle.psi_top.specs.Files.{items_in, reads_items};
-ghost use Rattle.psi_top.specs.Tree.{puts, reads, says};
-ghost use Rattle.psi_top.specs.Walk.{Makes, Settles, Steps};
+ghost use Rattle.psi_top.specs.Files.{items_in, reads_items, reads_sender, sender_in};
+ghost use Rattle.psi_top.specs.Tree.{puts, says};
+ghost use Rattle.psi_top.specs.Walk.{Makes, Settles, Steps, StepsOpen, StepsRead, talk_status};
 
 use crate::form::word_at;
 use crate::status::Status;
-use psi_base::{FILE_LIMIT, Fault, ReadFault, Words, World, print_all};
+use psi_base::{FILE_LIMIT, Fault, ReadFault, Side, Words, World, print_all};
+use psi_deal::{BadDeal, SenderDeal, read_sender};
+use psi_frames::EndFault;
 use psi_items::{BadItems, Items};
 use std::alloc::Global;
 
@@ -20,7 +24,7 @@ fn read_bytes<W: World>(
     limit: u32,
     world: &mut W,
 ) -> Result<Vec<u8>, Status>
-    ensures steps { Steps W.known words.now (reads word limit) (W.outside world.old) (as_list result)
+    ensures steps { StepsRead W.known words.now word limit (W.outside world.old) (as_list result)
         (W.outside world.new) }
     ensures short { IfOk (as_list result) (λ bytes. length bytes ≤ limit) }
 {
@@ -36,7 +40,8 @@ fn read_bytes<W: World>(
 #[tactic(auto, unfolding(crate::specs::Files::items_in))]
 fn judge_items(alloc: Global, word: u8, bytes: &[u8]) -> Result<Items, Status>
     requires { length bytes.now ≤ file_limit }
-    ensures { Settles (items_in word bytes.now) result }
+    ensures settles { Settles (items_in word bytes.now) result }
+    ensures are_bytes { AreBytes bytes.now }
 {
     match Items::read(alloc, bytes) {
         Ok(items) => Ok(items),
@@ -57,6 +62,61 @@ pub fn read_items<W: World>(
     match read_bytes(alloc, words, word, FILE_LIMIT, world) {
         Ok(bytes) => judge_items(alloc, word, &bytes),
         Err(status) => Err(status),
+    }
+}
+
+// The sender's deal of the file of a word.
+#[tactic(auto, unfolding(crate::specs::Files::sender_in))]
+fn judge_sender(alloc: Global, word: u8, bytes: &[u8]) -> Result<SenderDeal, Status>
+    requires { length bytes.now ≤ file_limit }
+    ensures settles { Settles (sender_in word bytes.now) result }
+    ensures are_bytes { AreBytes bytes.now }
+    ensures deal { IfOk result IsSenderDeal }
+{
+    match read_sender(alloc, bytes) {
+        Ok(deal) => Ok(deal),
+        Err(BadDeal::NoMemory) => Err(Status::NoMemory),
+        Err(fault) => Err(Status::BadDeal { word, fault }),
+    }
+}
+
+/// Reads the sender's deal file that the word at this place names.
+pub fn read_sender_deal<W: World>(
+    alloc: Global,
+    words: &Words,
+    word: u8,
+    world: &mut W,
+) -> Result<SenderDeal, Status>
+    ensures steps { Steps W.known words.now (reads_sender word) (W.outside world.old) result (W.outside world.new) }
+    ensures deal { IfOk result IsSenderDeal }
+{
+    match read_bytes(alloc, words, word, FILE_LIMIT, world) {
+        Ok(bytes) => judge_sender(alloc, word, &bytes),
+        Err(status) => Err(status),
+    }
+}
+
+/// Opens the link at the address that the word at this place names.
+pub fn open_link<W: World>(words: &Words, word: u8, side: Side, world: &mut W) -> Result<(), Status>
+    ensures steps { StepsOpen W.known words.now (W.outside world.old) result (W.outside world.new) }
+    ensures ready { OnOk result (IsTrue (W.outside world.new).ready) }
+{
+    match world.open_link(side, word_at(words, usize::from(word))) {
+        Ok(()) => Ok(()),
+        Err(Fault::Failed) => Err(Status::LinkFault),
+        Err(Fault::NoMemory) => Err(Status::NoMemory),
+    }
+}
+
+/// The status of a session that was not done.
+pub fn session_status(fault: EndFault) -> Status
+    ensures { result ≡ talk_status fault }
+{
+    match fault {
+        EndFault::Bad(frame) => Status::BadFrame(frame),
+        EndFault::PeerEnded { offset } => Status::PeerEnded { offset },
+        EndFault::Link => Status::LinkFault,
+        EndFault::NoMemory => Status::NoMemory,
     }
 }
 

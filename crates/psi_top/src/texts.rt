@@ -1,10 +1,11 @@
 // The lines that name faults.
-ghost use Rattle.std.specs.Prelude.{◌≡◌, ◌+◌, ◌≤◌, ◌++◌, length, take, decimal};
-ghost use Rattle.psi_top.specs.Texts.{crowded_text, fault_text, frame_text, items_text, line_front, too_long_text, word_front};
+ghost use Rattle.std.specs.Prelude.{◌≡◌, ◌+◌, ◌≤◌, ◌++◌, length, take, decimal, codes};
+ghost use Rattle.psi_top.specs.Texts.{crowded_text, deal_text, fault_text, frame_text, items_text, line_front, too_long_text, word_front};
 
 use crate::status::Status;
 use arrayvec::ArrayString;
 use itoa::Buffer;
+use psi_deal::BadDeal;
 use psi_frames::BadFrame;
 use psi_items::BadItems;
 
@@ -120,6 +121,35 @@ impl Line {
         }
     }
 
+    // A line about a number in a deal file, which has this name.
+    fn about_part(word: u8, name: &str, found: u32) -> Line
+        requires { length name.now ≤ 20 }
+        ensures { result.text.bytes ≡ word_front word ++ name.now ++ decimal found ++ codes "\n" }
+    {
+        Line::about_word(word)
+            .with(name)
+            .with_number(u64::from(found))
+            .with("\n")
+    }
+
+    // A line about a fault of a deal file.
+    fn about_deal(word: u8, fault: BadDeal) -> Line
+        ensures { result.text.bytes ≡ deal_text word fault }
+    {
+        match fault {
+            BadDeal::Magic => Line::about_word(word).with("not a deal file\n"),
+            BadDeal::Version { found } => Line::about_part(word, "deal version ", u32::from(found)),
+            BadDeal::Role { found } => Line::about_part(word, "deal role ", u32::from(found)),
+            BadDeal::Length { found } => Line::about_part(word, "deal length ", found),
+            BadDeal::TagBytes { found } => {
+                Line::about_part(word, "deal tag bytes ", u32::from(found))
+            }
+            BadDeal::StashRows { found } => Line::about_part(word, "deal stash ", u32::from(found)),
+            BadDeal::Seal => Line::about_word(word).with("deal seal\n"),
+            BadDeal::NoMemory => Line::begin("psi: no memory\n"),
+        }
+    }
+
     // A line of a number between two texts.
     fn about_number(front: &str, number: u64, end: &str) -> Line
         requires { length front.now + 20 + length end.now ≤ 120 }
@@ -138,6 +168,7 @@ impl Line {
                 Line::about_number("psi: bad word at ", u64::from(*at), "\n")
             }
             Status::BadItems { word, fault } => Line::about_items(*word, *fault),
+            Status::BadDeal { word, fault } => Line::about_deal(*word, *fault),
             Status::NoPlacement {
                 word,
                 items,

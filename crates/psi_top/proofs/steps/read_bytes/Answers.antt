@@ -5,7 +5,8 @@ use Rattle.psi_top.proofs.steps.read_bytes.Goals as goal
 
 pub returns-in-Ok-clause-steps : goal.returns-in-Ok-clause-steps
 unfolding Follows
-returns-in-Ok-clause-steps g c = λ next end h. passed c.in-Ok.bytes.items (g.W.World.outside c.read_file.new.self) (search rules) h
+returns-in-Ok-clause-steps g c = λ are_bytes next end h.
+    passed c.in-Ok.bytes.items (g.W.World.outside c.read_file.new.self) (are_bytes, search rules) h
 
 pub returns-in-Err-Failed-clause-steps : goal.returns-in-Err-Failed-clause-steps
 unfolding Follows

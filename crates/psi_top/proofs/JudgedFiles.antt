@@ -1,0 +1,138 @@
+-- What a run that read and judged a file answers and leaves.
+use Rattle.std.proofs.Common.{◌≡◌, inl, inr, ℕ, false, List, Option, Some, None, Ok, Err, refl}
+use Rattle.std.specs.declared.result.Result.{Result}
+use Rattle.psi_spec.specs.DealFiles.{sender_of, sender_size}
+use Rattle.psi_spec.specs.Deals.{SenderDeal}
+use Rattle.psi_spec.specs.Items.{BadLine, first_bad, items_of}
+use Rattle.psi_spec.specs.Limits.{file_limit}
+use Rattle.psi_base.specs.Outside.{Known, Outside}
+use Rattle.psi_deal.specs.BadDeals.{bad_deal}
+use Rattle.psi_deal.specs.declared.errors.BadDeal.{BadDeal as DealFault}
+use Rattle.psi_items.specs.Reading.{bad_items_of}
+use Rattle.psi_top.specs.Files.{items_in, judged_items, judged_sender, reads_items, reads_sender, sender_in}
+use Rattle.psi_top.specs.JudgedFiles.{HasBadLine, HasBadSenderDeal, HasItems, HasSenderDeal}
+use Rattle.psi_top.specs.Promises.{IsAnswered, IsSilent, IsUnread, Leaves, WasRead}
+use Rattle.psi_top.specs.Tree.{Tree, reads, decides, End}
+use Rattle.psi_top.specs.declared.status.Status.{Status}
+use Rattle.psi_top.specs.declared.status.Status.TheVariants as status
+
+-- ---- any judgement
+
+pub left_decides : {A : Type 0} (known : Known) (words : List (List ℕ)) (due : Result A Status) (next : A → Tree) (before : Outside) (end : End)
+    → Leaves known words (decides due next) before end → (x : A) × (due ≡ Ok x) × Leaves known words (next x) before end
+unfolding decides
+left_decides known words (Ok x) next before end h = (x, refl, h)
+left_decides known words (Err why) next before end h = absurd h
+
+-- a run at a file that is read and judged: it was not read, memory was wanting, it was refused, or the run went on with what it holds
+pub data AtFile {A : Type 0} (known : Known) (words : List (List ℕ)) (before : Outside) (word : ℕ) (judge : List ℕ → Result A Status)
+    (why : Status) (after : Outside) (Rest : A → Type 0) : Type 0 where
+  unread : IsUnread word file_limit why → IsSilent before after → AtFile known words before word judge why after Rest
+  wanting : why ≡ status.NoMemory → IsSilent before after → AtFile known words before word judge why after Rest
+  refused : (bytes : List ℕ) → WasRead known words before word file_limit bytes → judge bytes ≡ Err why → IsSilent before after
+      → AtFile known words before word judge why after Rest
+  taken_on : (bytes : List ℕ) (x : A) → WasRead known words before word file_limit bytes → judge bytes ≡ Ok x → Rest x
+      → AtFile known words before word judge why after Rest
+
+pub answered_file : {A : Type 0} (known : Known) (words : List (List ℕ)) (word : ℕ) (judge : List ℕ → Result A Status) (next : A → Tree) (before : Outside)
+    (why : Status) (after : Outside) → IsAnswered known words false (reads word file_limit (λ bytes. decides (judge bytes) next)) before why after
+    → AtFile known words before word judge why after (λ x. IsAnswered known words false (next x) before why after)
+unfolding decides
+answered_file known words word judge next before why after (inl h) = unread h.0 h.1
+answered_file known words word judge next before why after (inr h) = by_judge (judge h.0) refl h.2
+  where
+    by_judge : (r : Result _ Status) → judge h.0 ≡ r → IsAnswered known words false (decides r next) before why after
+        → AtFile known words before word judge why after (λ x. IsAnswered known words false (next x) before why after)
+    by_judge (Ok x) e a = taken_on h.0 x h.1 e a
+    by_judge (Err verdict) e (inl s, quiet) = wanting s quiet
+    by_judge (Err verdict) e (inr s, quiet) = refused h.0 h.1 (rw s.0 e) quiet
+
+-- ---- item files
+
+items_good : (word : ℕ) (bytes : List ℕ) (items : List (List ℕ)) → items_in word bytes ≡ Ok items → (first_bad bytes ≡ None) × (items ≡ items_of bytes)
+unfolding items_in
+items_good word bytes items e = by_line (first_bad bytes) refl e
+  where
+    by_line : (line : Option BadLine) → first_bad bytes ≡ line → judged_items word bytes line ≡ Ok items → (first_bad bytes ≡ None) × (items ≡ items_of bytes)
+    by_line None f e = (f, let g : Ok (items_of bytes) ≡ Ok items = e in cc g)
+    by_line (Some line) f e = cc e
+
+pub items_bad : (word : ℕ) (bytes : List ℕ) (why : Status) → items_in word bytes ≡ Err why
+    → (line : BadLine) × (first_bad bytes ≡ Some line) × (why ≡ status.BadItems word (bad_items_of line))
+unfolding items_in
+items_bad word bytes why e = by_line (first_bad bytes) refl e
+  where
+    by_line : (line : Option BadLine) → first_bad bytes ≡ line → judged_items word bytes line ≡ Err why
+        → (line : BadLine) × (first_bad bytes ≡ Some line) × (why ≡ status.BadItems word (bad_items_of line))
+    by_line None f e = cc e
+    by_line (Some line) f e = (line, f, cc e)
+
+pub has_items : (known : Known) (words : List (List ℕ)) (before : Outside) (word : ℕ) (bytes : List ℕ) (items : List (List ℕ))
+    → WasRead known words before word file_limit bytes → items_in word bytes ≡ Ok items → HasItems known words before word items
+has_items known words before word bytes items read e =
+    let good = items_good word bytes items e in
+    record { bytes = bytes; read = read; good = good.0; listed = good.1 }
+
+-- an item file that was refused has a bad line
+pub has_bad_line : (known : Known) (words : List (List ℕ)) (before : Outside) (word : ℕ) (bytes : List ℕ) (line : BadLine)
+    → WasRead known words before word file_limit bytes → first_bad bytes ≡ Some line → HasBadLine known words before word (bad_items_of line)
+has_bad_line known words before word bytes line read e = record { bytes = bytes; read = read; line = line; bad = e; named = refl }
+
+pub left_items : (known : Known) (words : List (List ℕ)) (word : ℕ) (next : List (List ℕ) → Tree) (before : Outside) (end : End)
+    → Leaves known words (reads_items word next) before end
+    → (items : List (List ℕ)) × HasItems known words before word items × Leaves known words (next items) before end
+unfolding reads_items
+left_items known words word next before end h =
+    let read = left_decides known words (items_in word h.0) next before end h.2 in
+    (read.0, has_items known words before word h.0 read.0 h.1 read.1, read.2)
+
+pub answered_items : (known : Known) (words : List (List ℕ)) (word : ℕ) (next : List (List ℕ) → Tree) (before : Outside) (why : Status) (after : Outside)
+    → IsAnswered known words false (reads_items word next) before why after
+    → AtFile known words before word (items_in word) why after (λ items. IsAnswered known words false (next items) before why after)
+unfolding reads_items
+answered_items known words word next before why after h = answered_file known words word (items_in word) next before why after h
+
+-- ---- sender's deal files
+
+sender_good : (word : ℕ) (bytes : List ℕ) (deal : SenderDeal) → sender_in word bytes ≡ Ok deal → (bad_deal 1 sender_size bytes ≡ None) × (deal ≡ sender_of bytes)
+unfolding sender_in
+sender_good word bytes deal e = by_fault (bad_deal 1 sender_size bytes) refl e
+  where
+    by_fault : (fault : Option DealFault) → bad_deal 1 sender_size bytes ≡ fault → judged_sender word bytes fault ≡ Ok deal
+        → (bad_deal 1 sender_size bytes ≡ None) × (deal ≡ sender_of bytes)
+    by_fault None f e = (f, let g : Ok (sender_of bytes) ≡ Ok deal = e in cc g)
+    by_fault (Some fault) f e = cc e
+
+pub sender_bad : (word : ℕ) (bytes : List ℕ) (why : Status) → sender_in word bytes ≡ Err why
+    → (fault : DealFault) × (bad_deal 1 sender_size bytes ≡ Some fault) × (why ≡ status.BadDeal word fault)
+unfolding sender_in
+sender_bad word bytes why e = by_fault (bad_deal 1 sender_size bytes) refl e
+  where
+    by_fault : (fault : Option DealFault) → bad_deal 1 sender_size bytes ≡ fault → judged_sender word bytes fault ≡ Err why
+        → (fault : DealFault) × (bad_deal 1 sender_size bytes ≡ Some fault) × (why ≡ status.BadDeal word fault)
+    by_fault None f e = cc e
+    by_fault (Some fault) f e = (fault, f, cc e)
+
+pub has_sender : (known : Known) (words : List (List ℕ)) (before : Outside) (word : ℕ) (bytes : List ℕ) (deal : SenderDeal)
+    → WasRead known words before word file_limit bytes → sender_in word bytes ≡ Ok deal → HasSenderDeal known words before word deal
+has_sender known words before word bytes deal read e =
+    let good = sender_good word bytes deal e in
+    record { bytes = bytes; read = read; good = good.0; spelled = good.1 }
+
+pub has_bad_sender : (known : Known) (words : List (List ℕ)) (before : Outside) (word : ℕ) (bytes : List ℕ) (fault : DealFault)
+    → WasRead known words before word file_limit bytes → bad_deal 1 sender_size bytes ≡ Some fault → HasBadSenderDeal known words before word fault
+has_bad_sender known words before word bytes fault read e = record { bytes = bytes; read = read; bad = e }
+
+pub left_sender : (known : Known) (words : List (List ℕ)) (word : ℕ) (next : SenderDeal → Tree) (before : Outside) (end : End)
+    → Leaves known words (reads_sender word next) before end
+    → (deal : SenderDeal) × HasSenderDeal known words before word deal × Leaves known words (next deal) before end
+unfolding reads_sender
+left_sender known words word next before end h =
+    let read = left_decides known words (sender_in word h.0) next before end h.2 in
+    (read.0, has_sender known words before word h.0 read.0 h.1 read.1, read.2)
+
+pub answered_sender : (known : Known) (words : List (List ℕ)) (word : ℕ) (next : SenderDeal → Tree) (before : Outside) (why : Status) (after : Outside)
+    → IsAnswered known words false (reads_sender word next) before why after
+    → AtFile known words before word (sender_in word) why after (λ deal. IsAnswered known words false (next deal) before why after)
+unfolding reads_sender
+answered_sender known words word next before why after h = answered_file known words word (sender_in word) next before why after h

@@ -1,0 +1,44 @@
+-- Files that were read, and what they hold.
+use Rattle.std.specs.Prelude.{◌≡◌, ℕ, List, None, Some}
+use Rattle.psi_spec.specs.DealFiles.{sender_of, sender_size}
+use Rattle.psi_spec.specs.Deals.{SenderDeal}
+use Rattle.psi_spec.specs.Items.{BadLine, first_bad, items_of}
+use Rattle.psi_spec.specs.Limits.{file_limit}
+use Rattle.psi_base.specs.Outside.{Known, Outside}
+use Rattle.psi_deal.specs.BadDeals.{bad_deal}
+use Rattle.psi_deal.specs.declared.errors.BadDeal.{BadDeal}
+use Rattle.psi_items.specs.Reading.{bad_items_of}
+use Rattle.psi_items.specs.declared.errors.BadItems.{BadItems}
+use Rattle.psi_top.specs.Promises.{WasRead}
+
+-- the item file of a word was read and has no line with a fault, and these are its items
+pub record HasItems (known : Known) (words : List (List ℕ)) (before : Outside) (word : ℕ) (items : List (List ℕ))
+    : Type 0 where
+  pub bytes : List ℕ
+  pub read : WasRead known words before word file_limit bytes
+  pub good : first_bad bytes ≡ None
+  pub listed : items ≡ items_of bytes
+
+-- the item file of a word was read and has a line with a fault, of which the first is this
+pub record HasBadLine (known : Known) (words : List (List ℕ)) (before : Outside) (word : ℕ) (fault : BadItems)
+    : Type 0 where
+  pub bytes : List ℕ
+  pub read : WasRead known words before word file_limit bytes
+  pub line : BadLine
+  pub bad : first_bad bytes ≡ Some line
+  pub named : fault ≡ bad_items_of line
+
+-- the sender's deal file of a word was read, and this is its deal
+pub record HasSenderDeal (known : Known) (words : List (List ℕ)) (before : Outside) (word : ℕ) (deal : SenderDeal)
+    : Type 0 where
+  pub bytes : List ℕ
+  pub read : WasRead known words before word file_limit bytes
+  pub good : bad_deal 1 sender_size bytes ≡ None
+  pub spelled : deal ≡ sender_of bytes
+
+-- the file of a word was read and is no deal file of the sender, first for this reason
+pub record HasBadSenderDeal (known : Known) (words : List (List ℕ)) (before : Outside) (word : ℕ) (fault : BadDeal)
+    : Type 0 where
+  pub bytes : List ℕ
+  pub read : WasRead known words before word file_limit bytes
+  pub bad : bad_deal 1 sender_size bytes ≡ Some fault

@@ -1,0 +1,107 @@
+-- What callers read of `send`, in its own words.
+use Rattle.std.specs.Prelude.{◌≡◌, true, ◌<◌, ◌≤◌, ◌⊎◌, ℕ, List, ◌++◌, length, Some, None, Err}
+use Rattle.psi_spec.specs.DealFiles.{sender_bytes}
+use Rattle.psi_spec.specs.Deals.{SenderDeal, IsSenderDeal}
+use Rattle.psi_spec.specs.Items.{first_bad}
+use Rattle.psi_spec.specs.Limits.{file_limit}
+use Rattle.psi_spec.specs.Streams.{sender_stream}
+use Rattle.psi_spec.specs.Words.{bad_word, word_at}
+use Rattle.psi_base.specs.Outside.{Known, Outside, Files, LinkFailed, Rose}
+use Rattle.psi_frames.specs.Dialogue.{CutOff, HeardBad, HeardShort, Talks, WereTaken, talked}
+use Rattle.psi_frames.specs.declared.turns.EndFault.TheVariants as peer
+use Rattle.psi_sender.specs.Laws.{IsStreamFor, sender_dialogue}
+use Rattle.psi_top.specs.Form.{command_of}
+use Rattle.psi_top.specs.JudgedFiles.{HasBadLine, HasBadSenderDeal, HasItems, HasSenderDeal}
+use Rattle.psi_top.specs.Promises.{IsCalm, IsSilent}
+use Rattle.psi_top.specs.Tree.{End}
+use Rattle.psi_top.specs.declared.form.Command.TheVariants.{Send}
+use Rattle.psi_top.specs.declared.status.Status.{Status}
+use Rattle.psi_top.specs.declared.status.Status.TheVariants.{Done, BadItems, BadDeal, BadFrame, PeerEnded, FileFault, LinkFault, TooLong, NoMemory}
+
+-- the outside with the link open
+abbrev pub opened : Outside → Outside
+opened before = record before { ready = true }
+
+-- the item file was read and has items
+abbrev pub AfterItems : Known → List (List ℕ) → Outside → Type 0
+AfterItems known words before = (ys : List (List ℕ)) × HasItems known words before 2 ys
+
+-- both files were read and judged, and a fact holds of the items and the deal
+pub record WithFiles (known : Known) (words : List (List ℕ)) (before : Outside)
+    (P : List (List ℕ) → SenderDeal → Type 0) : Type 0 where
+  pub ys : List (List ℕ)
+  pub deal : SenderDeal
+  pub y_file : HasItems known words before 2 ys
+  pub s_file : HasSenderDeal known words before 3 deal
+  pub fact : P ys deal
+
+-- a receiver's stream was taken, with a count and columns, the sender's stream for them was sent, and nothing else
+-- changed
+pub record Served (known : Known) (before : Outside) (ys : List (List ℕ)) (deal : SenderDeal) (after : Outside)
+    : Type 0 where
+  pub count : ℕ
+  pub columns : List (List ℕ)
+  pub taken : List ℕ
+  pub stream : IsStreamFor deal count columns taken
+  pub were_taken : WereTaken known before.incoming taken
+  pub left : after ≡ talked (opened before) (sender_stream deal count columns ys) taken
+
+-- nothing was sent, or a refusal of the outside was counted
+abbrev pub IsEarlyOrCounted : Outside → Outside → Type 0
+IsEarlyOrCounted before after = (after.outgoing ≡ before.outgoing) ⊎ Rose before.refusals after.refusals
+
+-- what `send` may answer, and what was taken and sent at each answer, in every world: its files are judged in order,
+-- then the link is opened, and then the session is run
+abbrev pub SendAnswers : Known → List (List ℕ) → Outside → Status → Outside → Type 0
+SendAnswers known words before Done after = WithFiles known words before (λ ys deal. Served known before ys deal after)
+SendAnswers known words before (BadItems place fault) after =
+    (place ≡ 2) × HasBadLine known words before 2 fault × IsSilent before after
+SendAnswers known words before (BadDeal place fault) after =
+    (place ≡ 3) × AfterItems known words before × HasBadSenderDeal known words before 3 fault × IsSilent before after
+SendAnswers known words before (FileFault place) after =
+    ((place ≡ 2) ⊎ ((place ≡ 3) × AfterItems known words before)) × IsSilent before after
+SendAnswers known words before (TooLong place taken) after =
+    ((place ≡ 2) ⊎ ((place ≡ 3) × AfterItems known words before)) × (file_limit < taken) × IsSilent before after
+SendAnswers known words before (BadFrame frame) after =
+    WithFiles known words before (λ ys deal. HeardBad known (sender_dialogue deal ys) (opened before) frame after)
+SendAnswers known words before (PeerEnded offset) after =
+    WithFiles known words before (λ ys deal. HeardShort known (sender_dialogue deal ys) (opened before) offset after)
+SendAnswers known words before LinkFault after =
+    WithFiles known words before
+    (λ ys deal. IsSilent before after
+    ⊎ CutOff known (sender_dialogue deal ys) (opened before) (λ sent mid. LinkFailed mid after))
+SendAnswers known words before NoMemory after =
+    IsEarlyOrCounted before after
+    × (IsSilent before after
+    ⊎ WithFiles known words before
+    (λ ys deal. Talks known (sender_dialogue deal ys) (opened before) (Err peer.NoMemory) after))
+SendAnswers known words before _ after = ⊥
+
+-- the same of a run
+abbrev pub IsOfSend : Known → List (List ℕ) → Outside → End → Type 0
+IsOfSend known words before end =
+    bad_word words ≡ None → command_of words ≡ Some Send → SendAnswers known words before end.status end.left
+
+-- both files are there, of a list without a bad line and of a sender's deal, and the peer's bytes begin with a
+-- receiver's stream for that deal
+pub record CanServe (words : List (List ℕ)) (files : Files) (incoming : List ℕ) : Type 0 where
+  pub y_bytes : List ℕ
+  pub y_there : files (word_at words 2) ≡ Some y_bytes
+  pub y_short : length y_bytes ≤ file_limit
+  pub y_good : first_bad y_bytes ≡ None
+  pub deal : SenderDeal
+  pub deal_is : IsSenderDeal deal
+  pub s_there : files (word_at words 3) ≡ Some (sender_bytes deal)
+  pub count : ℕ
+  pub columns : List (List ℕ)
+  pub stream : List ℕ
+  pub rest : List ℕ
+  pub begins : incoming ≡ stream ++ rest
+  pub honest : IsStreamFor deal count columns stream
+
+-- then `send` is done in a calm world, or memory was wanting
+abbrev pub SendServes : List (List ℕ) → Outside → End → Type 0
+SendServes words before end =
+    (files : Files) (incoming : List ℕ) → before.files ≡ Some files → before.incoming ≡ Some incoming
+    → bad_word words ≡ None → command_of words ≡ Some Send → CanServe words files incoming → IsCalm before end.left
+    → (end.status ≡ Done) ⊎ (end.status ≡ NoMemory)
