@@ -11,13 +11,13 @@ use std::alloc::Global;
 use std::fs;
 use std::io::{self, Read, Write};
 use std::net::{Net, OpenListener, OpenStream, Shutdown, TcpListener, TcpStream};
-use std::rt::Files;
-use std::time::Duration;
+use std::rt::{Clock, Files};
+use std::time::{Duration, Instant};
 
 /// The files of the system, standard output and one TCP stream, over a runtime. It tells no content, and
 /// counts what went wrong.
 #[derive(Drop)]
-pub struct RealWorld<R: Files + Print + Net + Drop> {
+pub struct RealWorld<R: Files + Print + Net + Clock + Drop> {
     rt: R,
     stream: Option<R::Stream>,
     file_faults: u64,
@@ -60,18 +60,31 @@ fn read_whole<F: Read + Drop>(alloc: Global, reader: F, max: u32) -> Result<Vec<
 // The most reads of what a peer sends after its session: of the longest stream, in pieces of a usual packet.
 const LAST_READS: u32 = 65_536;
 
-// Takes what a reader has left, up to so many pieces.
-fn drop_rest<F: Read>(reader: &mut F) {
+// The seconds for which a peer may be silent before its rest is no longer waited for.
+const SILENCE: u64 = 1;
+
+// The seconds for which its rest is taken in all.
+const LAST_WAIT: u64 = 10;
+
+// Takes what a reader has left, in at most so many pieces and for at most so long.
+fn drop_rest<F: Read, C: Clock>(reader: &mut F, clock: &C) {
+    let Ok(start) = Instant::now(clock) else {
+        return;
+    };
     let mut buffer = [0; 4096];
     for _ in 0..LAST_READS {
         match reader.read(&mut buffer) {
             Ok(0) | Err(_) => return,
             Ok(_) => {}
         }
+        match start.elapsed(clock) {
+            Ok(waited) if waited.as_secs() < LAST_WAIT => {}
+            _ => return,
+        }
     }
 }
 
-impl<R: Files + Print + Net + Drop> RealWorld<R> {
+impl<R: Files + Print + Net + Clock + Drop> RealWorld<R> {
     ghost use Rattle.psi_cli.specs.RealWorld.{outside_of};
 
     /// Nothing went wrong yet, and there is no link.
@@ -105,16 +118,16 @@ impl<R: Files + Print + Net + Drop> RealWorld<R> {
     }
 
     /// Ends the link, if there is one. The peer is told that no more is sent, and what it still sends is taken
-    /// and dropped until it ends too, fails or is silent for a second: a link that is closed with bytes unread
-    /// is reset, which may take back what was sent before.
+    /// and dropped until it ends too, fails, is silent for a second or has gone on for ten: a link that is closed
+    /// with bytes unread is reset, which may take back what was sent before.
     pub fn finish(&mut self)
         ensures { outside_of self.new ≡ outside_of self.old }
     {
         if let Some(stream) = self.stream.as_mut() {
             let told = stream.shutdown(Shutdown::Write);
-            let timed = stream.set_read_timeout(Some(Duration::from_secs(1)));
+            let timed = stream.set_read_timeout(Some(Duration::from_secs(SILENCE)));
             if told.is_ok() && timed.is_ok() {
-                drop_rest(stream);
+                drop_rest(stream, &self.rt);
             }
         }
     }
@@ -191,7 +204,7 @@ impl<R: Files + Print + Net + Drop> RealWorld<R> {
     }
 }
 
-impl<R: Files + Print + Net + Drop> World for RealWorld<R> {
+impl<R: Files + Print + Net + Clock + Drop> World for RealWorld<R> {
     ghost use Rattle.psi_cli.specs.RealWorld.{outside_of};
 
     ghost outside = { outside_of };
