@@ -34,7 +34,8 @@ fn is_sealed(bytes: &[u8]) -> bool
 
 // The size of the frame that bytes begin with, where they have as many.
 fn whole_size(bytes: &[u8]) -> Option<usize>
-    ensures { result ≡ (if nat_le (frame_size bytes.now) (length bytes.now) then Some (frame_size bytes.now) else None) }
+    ensures { result
+        ≡ (if nat_le (frame_size bytes.now) (length bytes.now) then Some (frame_size bytes.now) else None) }
 {
     let (_, rest) = bytes.split_first()?;
     let (length, payload) = rest.split_first_chunk::<4>()?;

@@ -41,7 +41,7 @@ impl Recorder {
         Ok(Recorder { bytes })
     }
 
-    /// Makes room for `n` more bytes at least. Err only where there is less and memory is wanting; then nothing changes.
+    /// Makes room for `n` more bytes at least. Err only where memory is wanting; then nothing changes.
     pub fn reserve(&mut self, n: u64) -> Result<(), NoMemory>
         ensures bytes { self.new.bytes ≡ self.old.bytes }
         ensures room { OnOk result (n ≤ self.new.spare) }
