@@ -18,6 +18,5 @@ pub mod Hits
 pub mod Sessions
 pub mod Records
 pub mod Texts
-pub mod Words
 pub mod Laws
 pub mod SessionLaws

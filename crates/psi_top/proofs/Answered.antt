@@ -2,7 +2,7 @@
 use Rattle.std.proofs.Common.{◌≡◌, ◌⊎◌, inl, inr, ℕ, Bool, true, List, [], ◌∷◌, suc, Option, Some, None, Ok, Err, refl, sym, ap, ◌∙◌, subst}
 use Rattle.std.specs.declared.result.Result.{Result}
 use Rattle.psi_spec.specs.Placement.{Slot, IsPlacement}
-use Rattle.psi_spec.specs.Words.{word_at}
+use Rattle.psi_top.specs.Words.{word_at}
 use Rattle.psi_base.specs.Outside.{Known, Outside, Reads, Rose, Writes, PrintsAll, Opens, partly_written, printed_too, written}
 use Rattle.psi_base.specs.declared.faults.Fault.{Fault}
 use Rattle.psi_base.specs.declared.faults.Fault.TheVariants as fault

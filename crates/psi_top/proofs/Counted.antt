@@ -2,7 +2,7 @@
 use Rattle.std.proofs.Common.{◌≡◌, ◌≤◌, ◌⊎◌, inl, inr, ℕ, Bool, true, false, List, [], ◌∷◌, take, Option, Some, None, Ok, Err, refl, sym, ap, ◌∙◌, subst, arith, length}
 use Rattle.std.specs.declared.result.Result.{Result}
 use Rattle.psi_spec.specs.Placement.{Slot}
-use Rattle.psi_spec.specs.Words.{word_at}
+use Rattle.psi_top.specs.Words.{word_at}
 use Rattle.psi_base.specs.Outside.{Known, Outside, Files, LacksFile, Rose, Reads, Writes, PrintsAll, Opens, Starved, partly_written}
 use Rattle.psi_base.specs.declared.faults.Fault.{Fault}
 use Rattle.psi_base.specs.declared.faults.Fault.TheVariants as fault

@@ -1,7 +1,7 @@
 -- The promise of `deal` in its own words.
 use Rattle.std.proofs.Common.{ℕ, List, ap}
 use Rattle.psi_spec.specs.Deals.{ArePair}
-use Rattle.psi_spec.specs.Words.{number_of, seed_of, stash_of, tag_length_of, word_at}
+use Rattle.psi_top.specs.Words.{number_of, seed_of, stash_of, tag_length_of, word_at}
 use Rattle.psi_spec.proofs.Dealing.{dealt_are_pairs}
 use Rattle.psi_base.specs.Outside.{Known, Outside}
 use Rattle.psi_top.specs.Commands.{Answers}

@@ -1,6 +1,6 @@
 -- What the words of `deal` say.
 use Rattle.std.proofs.Common.{◌≡◌, ℕ, true, List, [], ◌∷◌, Some, None}
-use Rattle.psi_spec.specs.Words.{alone, are_sizes, bad_word, is_name, is_output, is_seed, is_session, word_at}
+use Rattle.psi_top.specs.Words.{alone, are_sizes, bad_word, is_name, is_output, is_seed, is_session, word_at}
 use Rattle.psi_top.specs.Form.{command_of}
 use Rattle.psi_top.specs.declared.form.Command.TheVariants.{Deal}
 use Rattle.psi_top.proofs.LocalWords.{bad_from-none}

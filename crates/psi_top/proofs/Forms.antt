@@ -2,7 +2,7 @@
 use Rattle.std.proofs.Common.{◌≡◌, ◌+◌, ◌-◌, ◌<◌, ◌≤◌, ◌∙◌, ℕ, true, false, List, [], ◌∷◌, length, suc, nat_lt, None, refl, ap, arith}
 use Rattle.std.specs.Str.{bytes_eq}
 use Rattle.std.proofs.lemmas.Bool.Decides.{nat_tests}
-use Rattle.psi_spec.specs.Words.{bad_optional, is_among, word_at}
+use Rattle.psi_top.specs.Words.{bad_optional, is_among, word_at}
 use Rattle.psi_top.specs.Form.{tests_of}
 use Rattle.psi_top.specs.declared.form.Form.{Form}
 

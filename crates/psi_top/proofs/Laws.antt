@@ -3,7 +3,7 @@ use Rattle.std.proofs.Common.{◌≡◌, ◌==◌, ◌⊎◌, inl, inr, ℕ, Boo
 use Rattle.std.proofs.lemmas.Bool.Decides.{nat_tests}
 use Rattle.psi_spec.specs.CrowdedLists.{IsCrowded, touched_by}
 use Rattle.psi_spec.specs.Placement.{Slot, IsPlacement}
-use Rattle.psi_spec.specs.Words.{bad_word}
+use Rattle.psi_top.specs.Words.{bad_word}
 use Rattle.psi_spec.proofs.Crowding.{no_placement}
 use Rattle.psi_base.specs.Outside.{Known, Outside, Rose}
 use Rattle.psi_top.specs.Commands.{Answers, AnswersBy, tree_of}

@@ -6,7 +6,7 @@ use Rattle.std.proofs.lemmas.Bool.Decides.{nat_tests}
 use Rattle.psi_spec.specs.Limits.{bins_for, file_limit, usual_stash}
 use Rattle.psi_spec.specs.Meeting.{IsSetup, ShowsCommon, shown}
 use Rattle.psi_spec.specs.Texts.{lines_text}
-use Rattle.psi_spec.specs.Words.{number_of, seed_of, word_at}
+use Rattle.psi_top.specs.Words.{number_of, seed_of, word_at}
 use Rattle.psi_spec.proofs.Dealing.{dealt_setup, stash_placement}
 use Rattle.psi_spec.proofs.Meeting.{shows_common}
 use Rattle.psi_spec.proofs.Placing.{items_of-placed_of, length-stash_slots}

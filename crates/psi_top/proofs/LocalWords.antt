@@ -1,6 +1,6 @@
 -- What words without a bad place say.
 use Rattle.std.proofs.Common.{◌≡◌, ◌+◌, ◌&&◌, nat_lt, ℕ, Bool, true, false, List, [], ◌∷◌, Some, None, if◌then◌else◌, length, refl}
-use Rattle.psi_spec.specs.Words.{Form, alone, bad_from, bad_word, word_at, is_name, is_seed, is_session, is_tag_length}
+use Rattle.psi_top.specs.Words.{Form, alone, bad_from, bad_word, word_at, is_name, is_seed, is_session, is_tag_length}
 use Rattle.psi_top.specs.Form.{command_of}
 use Rattle.psi_top.specs.declared.form.Command.TheVariants.{Local}
 use Rattle.psi_top.proofs.NamedWords.{forms_fit}

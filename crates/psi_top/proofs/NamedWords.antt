@@ -2,7 +2,7 @@
 use Rattle.std.proofs.Common.{◌≡◌, ℕ, Bool, true, false, List, Some, None, if◌then◌else◌, codes, ap, subst, refl, ◌∙◌}
 use Rattle.std.specs.Option.{option_map_or}
 use Rattle.std.specs.Str.{bytes_eq}
-use Rattle.psi_spec.specs.Words.{Forms, bad_from, bad_word, forms_of, word_at}
+use Rattle.psi_top.specs.Words.{Forms, bad_from, bad_word, forms_of, word_at}
 use Rattle.psi_spec.proofs.Tags.{same_from_bytes_eq}
 use Rattle.psi_top.specs.Form.{command_of, name_of}
 use Rattle.psi_top.specs.declared.form.Command.{Command}

@@ -3,7 +3,7 @@ use Rattle.std.proofs.Common.{◌≡◌, ℕ, Bool, true, List, [], ◌∷◌, l
 use Rattle.std.specs.Option.{option_map, IfSome}
 use Rattle.std.specs.declared.result.Result.{Result}
 use Rattle.psi_spec.specs.Placement.{Slot, IsPlacement}
-use Rattle.psi_spec.specs.Words.{word_at}
+use Rattle.psi_top.specs.Words.{word_at}
 use Rattle.psi_base.specs.Outside.{Known, Outside, Files, Writes, PrintsAll, Opens}
 use Rattle.psi_frames.specs.Dialogue.{Dialogue, ReadSo, Talks, good, talked}
 use Rattle.psi_top.specs.Due.{Contents, told}

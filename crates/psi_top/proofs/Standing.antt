@@ -1,7 +1,7 @@
 -- What stands of what was to be printed and written.
 use Rattle.std.proofs.Common.{◌≡◌, inl, inr, Bool, ℕ, suc, List, [], ◌∷◌, take, Option, Some, None, Ok, Err, refl, sym, ap, ◌∙◌, subst, arith, slice_get}
 use Rattle.std.specs.declared.result.Result.{Result}
-use Rattle.psi_spec.specs.Words.{word_at}
+use Rattle.psi_top.specs.Words.{word_at}
 use Rattle.psi_base.specs.Outside.{Outside, Files, Writes, PrintsAll, written, partly_written}
 use Rattle.psi_base.specs.declared.faults.Fault.{Fault}
 use Rattle.psi_base.specs.declared.faults.Fault.TheVariants as fault

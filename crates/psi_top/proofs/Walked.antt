@@ -5,7 +5,7 @@ use Rattle.std.specs.Option.{option_map, IfSome}
 use Rattle.std.proofs.lemmas.Bool.Decides.{nat_tests}
 use Rattle.psi_spec.specs.CrowdedLists.{IsCrowded, touched_by}
 use Rattle.psi_spec.specs.Placement.{Slot}
-use Rattle.psi_spec.specs.Words.{word_at}
+use Rattle.psi_top.specs.Words.{word_at}
 use Rattle.psi_base.specs.Outside.{Known, Outside, Files, HasFile, HasAtLeast, LacksFile, Rose, Reads, Opens, Starved}
 use Rattle.psi_base.specs.declared.faults.Fault.{Fault}
 use Rattle.psi_base.specs.declared.faults.Fault.TheVariants as fault

@@ -12,7 +12,7 @@ use Rattle.std.proofs.lemmas.List.Sums.{AllPass-from_list_all, list_all-from_All
 use Rattle.hex.specs.Hex.{decode_sized, is_hex_digit}
 use Rattle.hex.specs.declared.error.FromHexError.{FromHexError}
 use Rattle.hex.proofs.HexLemmas.{IsOk-decode_sized, decode_sized-twice}
-use Rattle.psi_spec.specs.Words.{are_digits, are_sizes, is_stroke, is_seed, is_session, is_stash_count, is_tag_length, number_of, seed_of}
+use Rattle.psi_top.specs.Words.{are_digits, are_sizes, is_stroke, is_seed, is_session, is_stash_count, is_tag_length, number_of, seed_of}
 use Rattle.psi_spec.proofs.Lists.{same_test}
 
 -- two spellings of one test

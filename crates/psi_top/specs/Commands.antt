@@ -1,6 +1,6 @@
 -- The commands as trees of steps, and what a run may answer.
 use Rattle.std.specs.Prelude.{◌≡◌, ℕ, List, Option, Some, None}
-use Rattle.psi_spec.specs.Words.{bad_word}
+use Rattle.psi_top.specs.Words.{bad_word}
 use Rattle.psi_base.specs.Outside.{Known, Outside}
 use Rattle.psi_top.specs.Deal.{deal_tree}
 use Rattle.psi_top.specs.Form.{command_of}

@@ -1,7 +1,7 @@
 -- What a tree of steps comes to, where the contents of the outside are told.
 use Rattle.std.specs.Prelude.{◌==◌, ℕ, List, [], ◌∷◌, Option, Some, None, length, nat_lt, unwrap_or, take, true, if◌then◌else◌}
 use Rattle.psi_spec.specs.Placement.{Slot}
-use Rattle.psi_spec.specs.Words.{word_at}
+use Rattle.psi_top.specs.Words.{word_at}
 use Rattle.psi_base.specs.Outside.{Outside, Files, printed_too, written, partly_written}
 use Rattle.psi_frames.specs.Dialogue.{Reading, good, bad, short, talked}
 use Rattle.psi_top.specs.Tree.{Effect, says, puts, Placing, Tree, reads, refuses, places, opens, talks, ends}

@@ -1,7 +1,7 @@
 -- The commands, and the forms of their words.
 use Rattle.std.specs.Prelude.{ℕ, List, map, Option, Some, None, codes, if◌then◌else◌}
 use Rattle.std.specs.Str.{bytes_eq}
-use Rattle.psi_spec.specs.Words.{Form as Test, Forms, alone, are_sizes, is_name, is_output, is_seed, is_session, is_tag_length, word_at}
+use Rattle.psi_top.specs.Words.{Form as Test, Forms, alone, are_sizes, is_name, is_output, is_seed, is_session, is_tag_length, word_at}
 use Rattle.psi_top.specs.declared.form.Command.{Command}
 use Rattle.psi_top.specs.declared.form.Command.TheVariants.{Deal, Local, Send}
 use Rattle.psi_top.specs.declared.form.CommandForms.{CommandForms}

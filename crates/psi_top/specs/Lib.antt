@@ -14,3 +14,4 @@ pub mod Session
 pub mod Texts
 pub mod Tree
 pub mod Walk
+pub mod Words

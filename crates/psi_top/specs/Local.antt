@@ -5,7 +5,7 @@ use Rattle.psi_spec.specs.Deals.{ReceiverDeal, SenderDeal, dealt_receiver, dealt
 use Rattle.psi_spec.specs.Placement.{Slot, stash_slots}
 use Rattle.psi_spec.specs.Meeting.{Setup, setup_of, shown}
 use Rattle.psi_spec.specs.Texts.{lines_text}
-use Rattle.psi_spec.specs.Words.{word_at, seed_of, number_of}
+use Rattle.psi_top.specs.Words.{word_at, seed_of, number_of}
 use Rattle.psi_top.specs.Files.{reads_items}
 use Rattle.psi_top.specs.Tree.{says, Tree, ends, decides}
 use Rattle.psi_top.specs.declared.status.Status.{Status}

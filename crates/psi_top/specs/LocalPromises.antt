@@ -4,7 +4,7 @@ use Rattle.psi_spec.specs.Limits.{bins_for, file_limit, usual_stash}
 use Rattle.psi_spec.specs.Meeting.{Placed, SharesTag, shown, shown_placed}
 use Rattle.psi_spec.specs.Placement.{IsPlacementOf}
 use Rattle.psi_spec.specs.Texts.{lines_text}
-use Rattle.psi_spec.specs.Words.{bad_word}
+use Rattle.psi_top.specs.Words.{bad_word}
 use Rattle.psi_base.specs.Outside.{Known, Outside, printed_too}
 use Rattle.psi_top.specs.Form.{command_of}
 use Rattle.psi_top.specs.JudgedFiles.{HasBadLine, HasItems}

@@ -3,7 +3,7 @@ use Rattle.std.specs.Prelude.{◌≡◌, ◌<◌, ◌≤◌, ◌⊎◌, ℕ, Lis
 use Rattle.psi_spec.specs.Frames.{AreBytes}
 use Rattle.psi_spec.specs.CrowdedLists.{IsCrowded, touched_by}
 use Rattle.psi_spec.specs.Placement.{Slot, IsPlacement}
-use Rattle.psi_spec.specs.Words.{bad_word, word_at}
+use Rattle.psi_top.specs.Words.{bad_word, word_at}
 use Rattle.psi_base.specs.Outside.{Known, Outside, Files, HasFile, LacksFile, LinkFailed, Rose}
 use Rattle.psi_frames.specs.declared.turns.EndFault.TheVariants as peer
 use Rattle.psi_top.specs.Commands.{tree_of}

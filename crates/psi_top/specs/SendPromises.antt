@@ -5,7 +5,7 @@ use Rattle.psi_spec.specs.Deals.{SenderDeal, IsSenderDeal}
 use Rattle.psi_spec.specs.Items.{first_bad}
 use Rattle.psi_spec.specs.Limits.{file_limit}
 use Rattle.psi_spec.specs.Streams.{sender_stream}
-use Rattle.psi_spec.specs.Words.{bad_word, word_at}
+use Rattle.psi_top.specs.Words.{bad_word, word_at}
 use Rattle.psi_base.specs.Outside.{Known, Outside, Files, LinkFailed, Rose}
 use Rattle.psi_frames.specs.Dialogue.{CutOff, HeardBad, HeardShort, Talks, WereTaken, talked}
 use Rattle.psi_frames.specs.declared.turns.EndFault.TheVariants as peer

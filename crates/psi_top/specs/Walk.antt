@@ -3,7 +3,7 @@ use Rattle.std.specs.Prelude.{◌≡◌, ℕ, Bool, true, false, List, ◌∷◌
 use Rattle.psi_spec.specs.Frames.{AreBytes}
 use Rattle.psi_spec.specs.CrowdedLists.{IsCrowded, touched_by}
 use Rattle.psi_spec.specs.Placement.{Slot, IsPlacement}
-use Rattle.psi_spec.specs.Words.{word_at}
+use Rattle.psi_top.specs.Words.{word_at}
 use Rattle.psi_base.specs.Outside.{Known, Outside, Reads, Writes, PrintsAll, Opens}
 use Rattle.psi_base.specs.declared.faults.Fault.{Fault}
 use Rattle.psi_base.specs.declared.faults.Fault.TheVariants as fault

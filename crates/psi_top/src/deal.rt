@@ -1,7 +1,7 @@
 // The two deal files of a seed.
 ghost use Rattle.std.specs.Prelude.{◌≡◌, IfOk, None, Some};
 ghost use Rattle.psi_spec.specs.DealFiles.{receiver_bytes, sender_bytes};
-ghost use Rattle.psi_spec.specs.Words.{bad_word};
+ghost use Rattle.psi_top.specs.Words.{bad_word};
 ghost use Rattle.psi_top.specs.Deal.{deal_receiver, deal_sender, deal_tree};
 ghost use Rattle.psi_top.specs.Form.{command_of};
 ghost use Rattle.psi_top.specs.Tree.{end_of, ended};

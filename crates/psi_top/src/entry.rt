@@ -1,6 +1,6 @@
 // The top call.
 ghost use Rattle.std.specs.Prelude.{[]};
-ghost use Rattle.psi_spec.specs.Words.{bad_word};
+ghost use Rattle.psi_top.specs.Words.{bad_word};
 ghost use Rattle.psi_top.specs.Commands.{Answers};
 ghost use Rattle.psi_top.specs.Deal.{DealWrites};
 ghost use Rattle.psi_top.specs.LocalPromises.{IsOfLocal, LocalShows};

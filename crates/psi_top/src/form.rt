@@ -1,6 +1,6 @@
 // The forms of a command's words.
 ghost use Rattle.std.specs.Prelude.{◌≡◌, ◌+◌, ◌<◌, ◌≤◌, length, Some};
-ghost use Rattle.psi_spec.specs.Words.{bad_from, bad_optional, bad_word, forms_of, is_output, word_at};
+ghost use Rattle.psi_top.specs.Words.{bad_from, bad_optional, bad_word, forms_of, is_output, word_at};
 ghost use Rattle.psi_top.specs.Form.{command_of, name_of, test_of, tests_of};
 
 use crate::values::{are_sizes, is_seed, is_session, is_tag_length};

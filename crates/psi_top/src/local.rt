@@ -1,7 +1,7 @@
 // Both ends of a session in one run.
 ghost use Rattle.std.specs.Prelude.{◌≡◌, ◌≤◌, ◌∷◌, [], IfOk, Some, None, length};
 ghost use Rattle.psi_spec.specs.Deals.{ArePair, IsReceiverDeal, IsSenderDeal};
-ghost use Rattle.psi_spec.specs.Words.{bad_word};
+ghost use Rattle.psi_top.specs.Words.{bad_word};
 ghost use Rattle.psi_top.specs.Form.{command_of};
 ghost use Rattle.psi_top.specs.Local.{few_enough, local_receiver, local_sender, local_text, local_tree, most_local};
 ghost use Rattle.psi_top.specs.Tree.{end_of, ended, ends, says};

@@ -2,7 +2,7 @@
 ghost use Rattle.std.specs.Prelude.{◌≡◌, true};
 ghost use Rattle.std.specs.Char.{is_ascii_digit};
 ghost use Rattle.std.specs.List.{list_all};
-ghost use Rattle.psi_spec.specs.Words.{are_digits, are_sizes, is_seed, is_session, is_stash_count, is_tag_length, number_of, seed_of, stash_of, tag_length_of};
+ghost use Rattle.psi_top.specs.Words.{are_digits, are_sizes, is_seed, is_session, is_stash_count, is_tag_length, number_of, seed_of, stash_of, tag_length_of};
 
 use hex::FromHex;
 use psi_base::{STASH_LIMIT, USUAL_STASH};
@@ -103,7 +103,7 @@ fn number_of_stash_count(word: &str) -> u8
 
 /// The sizes of a deal: the length of a tag in bytes, and the number of stash rows, which is the usual one where the
 /// word does not say it.
-#[tactic(auto, unfolding(psi_spec::specs::Words::tag_length_of, psi_spec::specs::Words::stash_of))]
+#[tactic(auto, unfolding(crate::specs::Words::tag_length_of, crate::specs::Words::stash_of))]
 pub fn sizes_of(word: &str) -> (u8, u8)
     requires { are_sizes word.now ≡ true }
     ensures tag_length { result.0 ≡ tag_length_of word.now }

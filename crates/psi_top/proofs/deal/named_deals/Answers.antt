@@ -1,5 +1,5 @@
 use Rattle.std.proofs.Common.{◌∙◌, ap}
-use Rattle.psi_spec.specs.Words.{are_sizes}
+use Rattle.psi_top.specs.Words.{are_sizes}
 use Rattle.psi_top.proofs.DealWords.{deal_words}
 use Rattle.psi_top.proofs.deal.named_deals.Goals as goal
 

@@ -1,6 +1,6 @@
 use Rattle.std.proofs.Common.{◌≡◌, ◌∙◌, sym, ap, false}
 use Rattle.std.specs.Str.{bytes_eq}
-use Rattle.psi_spec.specs.Words.{word_at}
+use Rattle.psi_top.specs.Words.{word_at}
 use Rattle.psi_top.proofs.Forms.{is_among-later}
 use Rattle.psi_top.proofs.form.is_output.Goals as goal
 

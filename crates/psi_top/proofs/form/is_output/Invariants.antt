@@ -1,5 +1,5 @@
 use Rattle.std.proofs.Common.{◌≡◌, ◌-◌}
-use Rattle.psi_spec.specs.Words.{is_among}
+use Rattle.psi_top.specs.Words.{is_among}
 use Rattle.psi_top.proofs.form.is_output.Given as goal
 
 -- the word is among those from the first place on exactly where it is among those that are left

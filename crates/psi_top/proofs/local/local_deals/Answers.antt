@@ -1,5 +1,5 @@
 use Rattle.std.proofs.Common.{◌∙◌, ap}
-use Rattle.psi_spec.specs.Words.{is_tag_length}
+use Rattle.psi_top.specs.Words.{is_tag_length}
 use Rattle.psi_top.proofs.LocalWords.{local_words}
 use Rattle.psi_top.proofs.local.local_deals.Goals as goal
 

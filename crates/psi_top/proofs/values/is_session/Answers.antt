@@ -1,5 +1,5 @@
 use Rattle.std.proofs.Common.{◌∙◌, sym, ap, ◌&&◌, ◌≡◌, true, nat_lt, ◌^◌}
-use Rattle.psi_spec.specs.Words.{are_digits, number_of}
+use Rattle.psi_top.specs.Words.{are_digits, number_of}
 use Rattle.psi_top.proofs.WordValues.{has_digits, parse_fits}
 use Rattle.psi_top.proofs.values.is_session.Goals as goal
 

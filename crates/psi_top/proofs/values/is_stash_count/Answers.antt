@@ -1,5 +1,5 @@
 use Rattle.std.proofs.Common.{◌≡◌, ◌∙◌, sym, true, ◌^◌, ◌<◌, arith}
-use Rattle.psi_spec.specs.Words.{are_digits, number_of}
+use Rattle.psi_top.specs.Words.{are_digits, number_of}
 use Rattle.psi_top.proofs.WordValues.{has_digits, two_digits, parse_number}
 use Rattle.psi_top.proofs.values.is_stash_count.Goals as goal
 

@@ -1,5 +1,5 @@
 use Rattle.std.proofs.Common.{refl, ◌<◌, ◌^◌, arith}
-use Rattle.psi_spec.specs.Words.{number_of}
+use Rattle.psi_top.specs.Words.{number_of}
 use Rattle.psi_top.proofs.WordValues.{stash_parts, parse_number}
 use Rattle.psi_top.proofs.values.number_of_stash_count.Goals as goal
 

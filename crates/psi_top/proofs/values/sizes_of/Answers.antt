@@ -1,7 +1,7 @@
 use Rattle.std.proofs.Common.{◌≡◌, ◌∙◌, ap, true, arith}
 use Rattle.std.proofs.lemmas.Grind.{common_steps}
 use Rattle.std.specs.List.{after_first, list_any}
-use Rattle.psi_spec.specs.Words.{is_stash_count, is_stroke}
+use Rattle.psi_top.specs.Words.{is_stash_count, is_stroke}
 use Rattle.psi_top.proofs.WordValues.{sizes_parts}
 use Rattle.psi_top.proofs.values.sizes_of.Goals as goal
 
