@@ -1,5 +1,5 @@
 // Codes and tags over whole slices.
-ghost use Rattle.std.specs.Prelude.{◌≡◌, ◌≤◌, length, map};
+ghost use Rattle.std.specs.Prelude.{◌≡◌, ◌≤◌, length, map, All};
 ghost use Rattle.std.specs.Simd.Lanes.{zip2};
 ghost use Rattle.psi_spec.specs.Formulas.{code as code_of, padded_tag};
 
@@ -15,6 +15,19 @@ pub fn codes(key: &[u8; 16], index: u8, digests: &[[u8; 32]], out: &mut [Word512
 {
     for i in 0..digests.len() {
         out[i] = code(key, index, &digests[i]);
+    }
+}
+
+/// Fills `out` with the codes of as many digests, under a key of 16 bytes, each at its own index from
+/// 0 to 3: each is the answer of `code`.
+pub fn codes_at(key: &[u8; 16], indices: &[u8], digests: &[[u8; 32]], out: &mut [Word512])
+    requires index { All (λ index. index ≤ 3) indices.now }
+    requires indices { length indices.now ≡ length out.old }
+    requires digests { length digests.now ≡ length out.old }
+    ensures { out.new ≡ zip2 (code_of key.now) indices.now digests.now }
+{
+    for i in 0..out.len() {
+        out[i] = code(key, indices[i], &digests[i]);
     }
 }
 

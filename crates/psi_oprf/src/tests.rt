@@ -1,6 +1,6 @@
 //! Values that were computed by other programs.
 use crate::{
-    bin_of, candidates, code, codes, mask, open_column, own_tag, peer_tag, tag_into, tags,
+    bin_of, candidates, code, codes, codes_at, mask, open_column, own_tag, peer_tag, tag_into, tags,
 };
 use psi_base::NoMemory;
 use psi_bits::{Columns, Rows, Word512};
@@ -108,9 +108,13 @@ fn a_masked_column_is_opened(rt: HostRuntime) -> Result<(), NoMemory> {
 fn batches_are_as_computed_elsewhere(rt: HostRuntime) {
     let mut words = [Word512::zero(); 2];
     codes(&KEY, 1, &[[0; 32], [1; 32]], &mut words);
+    let mut apart = [Word512::zero(); 2];
+    codes_at(&KEY, &[1, 0], &[[1; 32], DIGEST], &mut apart);
     for (word, want) in [
         (words[0], [0x82, 0xf1, 0x29, 0xd3, 0x7d, 0x8e, 0xf6, 0xeb]),
         (words[1], [0x3f, 0x63, 0xa3, 0xf7, 0x4b, 0x03, 0xc7, 0x62]),
+        (apart[0], [0x3f, 0x63, 0xa3, 0xf7, 0x4b, 0x03, 0xc7, 0x62]),
+        (apart[1], [0x8f, 0x07, 0x12, 0x52, 0x45, 0xde, 0x14, 0x91]),
     ] {
         let bytes = word.to_bytes();
         assert_eq!(rt; &bytes[..4], &want[..4]);
