@@ -8,10 +8,10 @@ use Rattle.psi_base.specs.Outside.{Known, Outside}
 use Rattle.psi_frames.specs.declared.expect.Expect.{Expect}
 use Rattle.psi_frames.specs.declared.reasons.Reason.{Reason}
 use Rattle.psi_frames.specs.declared.turns.EndFault.{EndFault}
-use Rattle.psi_frames.specs.Converse.{Converses}
+use Rattle.psi_frames.specs.Converse.{Converses, ConversesWith}
 use Rattle.psi_frames.specs.Dialogue.{Talks, Dialogue, bad, short}
 use Rattle.psi_frames.specs.Expected.{IsBegun, IsValid, frame_at, frame_length, wrong}
-use Rattle.psi_frames.specs.Script.{AreAwaited, IsRead, IsSettled, IsWithin, Script, awaits, by_fault, by_front, dialogue_of, goes_on, over, owed, reading_from, script_of, sends}
+use Rattle.psi_frames.specs.Script.{AreAwaited, IsRead, IsSettled, IsWithin, Script, awaits, by_fault, by_front, dialogue_of, goes_on, over, owed, reading_from, script_of, sends, wire_for}
 use Rattle.psi_frames.proofs.Fed.{take_past}
 use Rattle.psi_frames.proofs.FrameAt.{frame_at_layout}
 use Rattle.psi_frames.proofs.Judged.{wrong_stays}
@@ -19,7 +19,7 @@ use Rattle.psi_frames.proofs.Judged.{wrong_stays}
 -- ---- what stands at the front of bytes
 
 -- a whole frame
-by_front-whole : {A : Type 0} (e : Expect) (bytes : List ℕ) (refused : Reason → A) (begun : A) (whole : Frame → A)
+pub by_front-whole : {A : Type 0} (e : Expect) (bytes : List ℕ) (refused : Reason → A) (begun : A) (whole : Frame → A)
     → wrong e (take (frame_length e) bytes) ≡ None → frame_length e ≤ length bytes → by_front e bytes refused begun whole ≡ whole (frame_at e (take (frame_length e) bytes))
 by_front-whole e bytes refused begun whole right long =
     ap₂ (λ (o : Option Reason) (few : Bool). by_fault o few refused begun whole (frame_at e (take (frame_length e) bytes))) right (le-ltb (length bytes) (frame_length e) long)
@@ -102,6 +102,12 @@ owed-goes_on new (sends out rest) bytes =
     append_assoc out (goes_on new rest).owes (owed (goes_on new rest).next bytes) ∙ ap (λ (xs : List ℕ). out ++ xs) (owed-goes_on new rest bytes)
 owed-goes_on new (awaits e next) bytes = refl
 
+pub wire-goes_on : (new : Bool) (script : Script) (frames : List Frame) → (goes_on new script).owes ++ wire_for (goes_on new script).next frames ≡ wire_for script frames
+wire-goes_on new over frames = refl
+wire-goes_on new (sends out rest) frames =
+    append_assoc out (goes_on new rest).owes (wire_for (goes_on new rest).next frames) ∙ ap (λ (xs : List ℕ). out ++ xs) (wire-goes_on new rest frames)
+wire-goes_on new (awaits e next) frames = refl
+
 pub awaited-goes_on : (new : Bool) (script : Script) (frames : List Frame) → AreAwaited (goes_on new script).next frames ≡ AreAwaited script frames
 awaited-goes_on new over frames = refl
 awaited-goes_on new (sends out rest) frames = awaited-goes_on new rest frames
@@ -149,3 +155,9 @@ converses-goes_on known new script before (Ok u) after h = (
   read-goes_on new script h.2 h.0 h.3,
 )
 converses-goes_on known new script before (Err why) after h = subst (λ (d : Dialogue). Talks known d before (Err why) after) (dialogue-goes_on new script) h
+
+-- a session of which more is told
+pub converses_so : (known : Known) (script : Script) (Told : List Frame → Type 0) (before : Outside) (r : Result (Unit {0}) EndFault) (after : Outside)
+    → ConversesWith known script Told before r after → Converses known script before r after
+converses_so known script Told before (Ok u) after h = (h.0, h.1, h.2, h.3)
+converses_so known script Told before (Err why) after h = h

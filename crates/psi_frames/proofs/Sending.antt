@@ -1,9 +1,9 @@
 -- The loops of a session: what was sent so far, and what came so far.
-use Rattle.std.proofs.Common.{◌≡◌, ◌<◌, ◌≤◌, ◌+◌, ◌-◌, ◌∙◌, ℕ, List, [], ◌++◌, length, take, drop, Option, Some, None, Ok, refl, sym, ap, ap₂, subst, arith, length-append}
+use Rattle.std.proofs.Common.{◌≡◌, ◌<◌, ◌≤◌, ◌+◌, ◌-◌, ◌∙◌, ℕ, List, [], ◌++◌, length, take, drop, Option, Some, None, Ok, refl, sym, ap, ap₂, subst, arith, append_assoc, length-append}
 use Rattle.std.specs.declared.result.Result.{Result}
 use Rattle.std.specs.Option.{option_map_or}
 use Rattle.std.proofs.Math.Seq.{take-add}
-use Rattle.std.proofs.lemmas.List.{drop-drop, length-drop, length-take, length-take-le, take-append-le, take-take, take_all}
+use Rattle.std.proofs.lemmas.List.{append-nil, drop-drop, length-drop, length-take, length-take-le, take-append-le, take-take, take_all}
 use Rattle.psi_base.specs.Outside.{Known, Outside, Received, sent_too}
 use Rattle.psi_spec.specs.Frames.{AreBytes, Frame}
 use Rattle.psi_frames.specs.declared.expect.Expect.{Expect}
@@ -12,19 +12,35 @@ use Rattle.psi_frames.specs.declared.reasons.BadFrame.{BadFrame}
 use Rattle.psi_frames.specs.Boxes.{Answers, InboxState, Leaves, MayExpect, after_feed, missing_of, taken_of, with_lent}
 use Rattle.psi_frames.specs.Converse.{Came, Heard, Took}
 use Rattle.psi_frames.specs.Expected.{IsBegun, IsValid, IsWhole, frame_length, seen, wrong}
-use Rattle.psi_frames.specs.Script.{EndState, IsPending, after_sending, after_taking}
+use Rattle.psi_frames.specs.Script.{EndState, IsPending, Keeps, KeepsOn, after_sending, after_taking}
 use Rattle.psi_frames.proofs.Taken.{received, sent_twice, took_more, took_none}
 
+-- ---- what an end keeps
+
+-- it goes on with nothing
+pub keeps_on-none : {X : Type 0} (keeps : Keeps X) → KeepsOn keeps keeps [] []
+keeps_on-none keeps origin before wire h =
+    subst (λ (xs : List ℕ). keeps origin (before ++ []) xs) (sym (append-nil wire)) (subst (λ (fs : List Frame). keeps origin fs wire) (sym (append-nil before)) h)
+
+-- it goes on twice
+pub keeps_on-more : {X : Type 0} (first mid last : Keeps X) (fs gs : List Frame) (xs ys : List ℕ) → KeepsOn first mid fs xs → KeepsOn mid last gs ys → KeepsOn first last (fs ++ gs) (xs ++ ys)
+keeps_on-more first mid last fs gs xs ys a b origin before wire h =
+    subst (λ (bytes : List ℕ). last origin (before ++ (fs ++ gs)) bytes) (append_assoc wire xs ys)
+    (subst (λ (frames : List Frame). last origin frames (wire ++ xs ++ ys)) (append_assoc before fs gs) (b origin (before ++ fs) (wire ++ xs) (a origin before wire h)))
+
+-- ---- what was sent so far
+
 -- so many of the owed bytes were sent, and the rest is still owed
-pub record SentSoFar (old : Outside) (state : EndState) (now : Outside) (state' : EndState) : Type 0 where
+pub record SentSoFar {X : Type 0} (old : Outside) (state : EndState) (first : Keeps X) (now : Outside) (state' : EndState) (keeps : Keeps X) : Type 0 where
   pub count : ℕ
   pub within : count ≤ length state.owes
   pub sent : now ≡ sent_too old (take count state.owes)
   pub left : state' ≡ after_sending count state
+  pub kept : KeepsOn first keeps [] (take count state.owes)
 
-pub sent_more : (old mid new : Outside) (state state' state'' : EndState) (pending : List ℕ) (k : ℕ) → SentSoFar old state mid state' → IsPending pending state'.owes
-    → k ≤ length pending → new ≡ sent_too mid (take k pending) → state'' ≡ after_sending k state' → SentSoFar old state new state''
-sent_more old mid new state state' state'' pending k so_far is few sends after =
+pub sent_more : {X : Type 0} (old mid new : Outside) (state state' state'' : EndState) (first keeps keeps' : Keeps X) (pending : List ℕ) (k : ℕ) → SentSoFar old state first mid state' keeps → IsPending pending state'.owes
+    → k ≤ length pending → new ≡ sent_too mid (take k pending) → state'' ≡ after_sending k state' → KeepsOn keeps keeps' [] (take k pending) → SentSoFar old state first new state'' keeps'
+sent_more old mid new state state' state'' first keeps keeps' pending k so_far is few sends after kept =
     let n = so_far.count in
     let owes : state'.owes ≡ drop n state.owes = ap (λ (s : EndState). s.owes) so_far.left in
     let front : take k pending ≡ take k (drop n state.owes) =
@@ -38,6 +54,9 @@ sent_more old mid new state state' state'' pending k so_far is few sends after =
           sends ∙ ap₂ (λ (o : Outside) (xs : List ℕ). sent_too o xs) so_far.sent front
           ∙ (sent_twice old (take n state.owes) (take k (drop n state.owes)) ∙ ap (sent_too old) (sym (take-add n k state.owes)));
       left = after ∙ ap (after_sending k) so_far.left ∙ ap (λ (xs : List ℕ). record state { owes = xs }) (drop-drop k n state.owes);
+      kept =
+          subst (λ (xs : List ℕ). KeepsOn first keeps' [] xs) (ap (λ (xs : List ℕ). take n state.owes ++ xs) front ∙ sym (take-add n k state.owes))
+          (keeps_on-more first keeps keeps' [] [] (take n state.owes) (take k pending) so_far.kept kept);
     }
 
 missing_by : (refused : Option BadFrame) (n : ℕ) → option_map_or (λ (_ : BadFrame). 0) refused n ≤ n
@@ -97,10 +116,10 @@ pub valid_of : (e : Expect) (bytes : List ℕ) (f : Frame) → IsWhole e bytes f
 valid_of e bytes f whole = subst (λ (xs : List ℕ). IsWhole e xs f) (sym whole.values) whole
 
 -- the frame that came whole is the one that is due
-pub heard_of : (known : Known) (e : Expect) (state state' : EndState) (box box' box'' : InboxState) (old new : Outside) (frame : lent.Frame) (r : Result (Option lent.Frame) BadFrame)
+pub heard_of : (known : Known) (e : Expect) (Told : Frame → Type 0) (state state' : EndState) (box box' box'' : InboxState) (old new : Outside) (frame : lent.Frame) (r : Result (Option lent.Frame) BadFrame)
     → Took known old box'.held new × (box' ≡ record box { held = box'.held }) → r ≡ Ok (Some frame) → Answers box' e r → Leaves box' e r box''
-    → state' ≡ after_taking (seen frame) state → Heard known e state box old state' box'' new
-heard_of known e state state' box box' box'' old new frame r on is answer leaves takes =
+    → state' ≡ after_taking (seen frame) state → Told (seen frame) → Heard known e Told state box old state' box'' new
+heard_of known e Told state state' box box' box'' old new frame r on is answer leaves takes told =
     let whole : IsWhole e box'.held (seen frame) = subst (λ (x : Result (Option lent.Frame) BadFrame). Answers box' e x) is answer in
     let left : box'' ≡ with_lent e box' = subst (λ (x : Result (Option lent.Frame) BadFrame). Leaves box' e x box'') is leaves in
     record {
@@ -109,4 +128,5 @@ heard_of known e state state' box box' box'' old new frame r on is answer leaves
       took = subst (λ (xs : List ℕ). Took known old xs new) (sym whole.values) on.0;
       goes_on = takes;
       lent = left ∙ ap (with_lent e) on.1;
+      told = told;
     }

@@ -12,17 +12,19 @@ use Rattle.psi_frames.specs.declared.reasons.BadFrame.{BadFrame}
 use Rattle.psi_frames.specs.declared.turns.EndFault.{EndFault}
 use Rattle.psi_frames.specs.declared.turns.EndFault.TheVariants as fault
 use Rattle.psi_frames.specs.Boxes.{InboxState, with_lent}
-use Rattle.psi_frames.specs.Converse.{Converses, Heard, Hears, PeerEnded, Refused, SendsAll, Stopped, Took, Unheard, without_front}
+use Rattle.psi_frames.specs.Converse.{ConversesWith, Heard, Hears, KeepsAll, KeepsFrame, PeerEnded, Refused, SendsAll, Stopped, Took, Unheard, without_front}
 use Rattle.psi_frames.specs.Dialogue.{Dialogue, Talks, WereTaken, bad, good, owed_before, short, talked}
 use Rattle.psi_frames.specs.Expected.{frame_length}
-use Rattle.psi_frames.specs.Script.{AreAwaited, EndState, IsSettled, IsWithin, Script, awaits, dialogue_of, due_after, due_frame, over, owed, reading_from, script_of, sends}
+use Rattle.psi_frames.specs.Script.{AreAwaited, EndState, IsSettled, IsWithin, Keeps, KeepsOn, Script, awaits, dialogue_of, due_after, due_frame, goes_on, over, owed, reading_from, script_of, sends, wire_for}
 use Rattle.psi_frames.proofs.Fed.{take_past}
-use Rattle.psi_frames.proofs.Scripts.{awaited-goes_on, new-goes_on, owed-begun, owed-goes_on, owed-whole, reading-begun, reading-goes_on, reading-whole, reading-wrong, settled-goes_on, within-goes_on}
+use Rattle.psi_frames.proofs.Scripts.{awaited-goes_on, new-goes_on, owed-begun, owed-goes_on, owed-whole, reading-begun, reading-goes_on, reading-whole, reading-wrong, settled-goes_on, wire-goes_on, within-goes_on}
+use Rattle.psi_frames.proofs.Sending.{keeps_on-more, keeps_on-none}
 use Rattle.psi_frames.proofs.Taken.{talked_none, talked_sent, talked_took, were_taken-more, were_taken-none}
 
 -- the frames that an end took, the bytes that it sent, and what it goes on with: it reads and owes as its whole script
--- does after these frames, and so many more are awaited at most
-pub record At (known : Known) (script : Script) (before : Outside) (done left : ℕ) (state : EndState) (box : InboxState) (now : Outside) : Type 0 where
+-- does after these frames, so many more are awaited at most, and what it kept went on with these frames and with all that
+-- stands on the wire
+pub record At {X : Type 0} (first keeps : Keeps X) (known : Known) (script : Script) (before : Outside) (done left : ℕ) (state : EndState) (box : InboxState) (now : Outside) : Type 0 where
   pub frames : List Frame
   pub taken : List ℕ
   pub gone : List ℕ
@@ -38,12 +40,15 @@ pub record At (known : Known) (script : Script) (before : Outside) (done left : 
   pub fresh : IsTrue state.is_new → taken ≡ []
   pub few : IsWithin left state.next
   pub long : length taken ≤ done * inbox_room
+  pub wire : List ℕ
+  pub on_wire : (rest : List Frame) → wire_for script (frames ++ rest) ≡ wire ++ (state.owes ++ wire_for state.next rest)
+  pub kept : KeepsOn first keeps frames wire
 
 -- ---- at the start, and after bytes were sent
 
-pub at_start : (known : Known) (before : Outside) (left : ℕ) (state : EndState) (box : InboxState) → IsSettled state.next → IsWithin left state.next
-    → box ≡ record { room = inbox_room; held = []; offset = 0; refused = None } → At known (script_of state) before 0 left state box before
-at_start known before left state box settled few empty = record {
+pub at_start : {X : Type 0} (keeps : Keeps X) (known : Known) (before : Outside) (left : ℕ) (state : EndState) (box : InboxState) → IsSettled state.next → IsWithin left state.next
+    → box ≡ record { room = inbox_room; held = []; offset = 0; refused = None } → At keeps keeps known (script_of state) before 0 left state box before
+at_start keeps known before left state box settled few empty = record {
   frames = [];
   taken = [];
   gone = [];
@@ -59,12 +64,15 @@ at_start known before left state box settled few empty = record {
   fresh = λ new. refl;
   few = few;
   long = omega arith;
+  wire = [];
+  on_wire = λ rest. refl;
+  kept = keeps_on-none keeps;
 }
 
-pub at_sent : (known : Known) (script : Script) (before : Outside) (done left : ℕ) (state state' : EndState) (box : InboxState) (now new : Outside) → At known script before done left state box now
-    → new ≡ sent_too now state.owes → state' ≡ record state { owes = [] } → At known script before done left state' box new
-at_sent known script before done left state state' box now new h all_sent after =
-    subst (λ (s : EndState). At known script before done left s box new) (sym after)
+pub at_sent : {X : Type 0} (first keeps keeps' : Keeps X) (known : Known) (script : Script) (before : Outside) (done left : ℕ) (state state' : EndState) (box : InboxState) (now new : Outside) → At first keeps known script before done left state box now
+    → new ≡ sent_too now state.owes → state' ≡ record state { owes = [] } → KeepsOn keeps keeps' [] state.owes → At first keeps' known script before done left state' box new
+at_sent first keeps keeps' known script before done left state state' box now new h all_sent after kept =
+    subst (λ (s : EndState). At first keeps' known script before done left s box new) (sym after)
     (record {
       frames = h.frames;
       taken = h.taken;
@@ -81,6 +89,11 @@ at_sent known script before done left state state' box now new h all_sent after 
       fresh = h.fresh;
       few = h.few;
       long = h.long;
+      wire = h.wire ++ state.owes;
+      on_wire = λ rest. h.on_wire rest ∙ sym (append_assoc h.wire state.owes (wire_for state.next rest));
+      kept =
+          subst (λ (fs : List Frame). KeepsOn first keeps' fs (h.wire ++ state.owes)) (append-nil h.frames)
+          (keeps_on-more first keeps keeps' h.frames [] h.wire state.owes h.kept kept);
     })
 
 -- nothing is owed before a byte of the frame that is due
@@ -90,48 +103,48 @@ settled_owes (sends out rest) settled = absurd settled
 settled_owes (awaits e next) settled = owed-begun e next [] (omega arith)
 
 -- what was owed once these frames were taken
-owed_here : (known : Known) (script : Script) (before : Outside) (done left : ℕ) (state : EndState) (box : InboxState) (now : Outside) (h : At known script before done left state box now)
+owed_here : {X : Type 0} (first keeps : Keeps X) (known : Known) (script : Script) (before : Outside) (done left : ℕ) (state : EndState) (box : InboxState) (now : Outside) (h : At first keeps known script before done left state box now)
     → owed script h.taken ≡ h.gone ++ state.owes
-owed_here known script before done left state box now h =
+owed_here first keeps known script before done left state box now h =
     ap (owed script) (sym (append-nil h.taken)) ∙ h.owes [] ∙ ap (λ (xs : List ℕ). h.gone ++ (state.owes ++ xs)) (settled_owes state.next h.settled)
     ∙ ap (λ (xs : List ℕ). h.gone ++ xs) (append-nil state.owes)
 
 -- ---- a send was refused
 
 -- the outside after a front of what is owed was sent
-sent_part : (known : Known) (script : Script) (before : Outside) (done left : ℕ) (state : EndState) (box : InboxState) (now : Outside) (k : ℕ) (h : At known script before done left state box now)
+sent_part : {X : Type 0} (first keeps : Keeps X) (known : Known) (script : Script) (before : Outside) (done left : ℕ) (state : EndState) (box : InboxState) (now : Outside) (k : ℕ) (h : At first keeps known script before done left state box now)
     → sent_too now (take k state.owes) ≡ talked before (take (length h.gone + k) (owed script h.taken)) h.taken
-sent_part known script before done left state box now k h =
+sent_part first keeps known script before done left state box now k h =
     let front : take (length h.gone + k) (owed script h.taken) ≡ h.gone ++ take k state.owes =
-    ap (take (length h.gone + k)) (owed_here known script before done left state box now h) ∙ take_past (length h.gone + k) h.gone state.owes k refl in
+    ap (take (length h.gone + k)) (owed_here first keeps known script before done left state box now h) ∙ take_past (length h.gone + k) h.gone state.owes k refl in
     ap (λ (o : Outside). sent_too o (take k state.owes)) h.now_is ∙ talked_sent before h.gone h.taken (take k state.owes)
     ∙ ap (λ (xs : List ℕ). talked before xs h.taken) (sym front)
 
-pub at_unsent : (known : Known) (script : Script) (before : Outside) (done left : ℕ) (state : EndState) (box : InboxState) (now new : Outside) (why : EndFault) → At known script before done left state box now
+pub at_unsent : {X : Type 0} (first keeps : Keeps X) (known : Known) (script : Script) (before : Outside) (done left : ℕ) (state : EndState) (box : InboxState) (now new : Outside) (why : EndFault) → At first keeps known script before done left state box now
     → SendsAll now state.owes (Err why) new → Talks known (dialogue_of script) before (Err why) new
-at_unsent known script before done left state box now new (fault.Bad frame) h part = absurd part
-at_unsent known script before done left state box now new (fault.PeerEnded offset) h part = absurd part
-at_unsent known script before done left state box now new fault.Link h part =
+at_unsent first keeps known script before done left state box now new (fault.Bad frame) h part = absurd part
+at_unsent first keeps known script before done left state box now new (fault.PeerEnded offset) h part = absurd part
+at_unsent first keeps known script before done left state box now new fault.Link h part =
     let long = length-append h.gone state.owes in
-    let most = ap length (owed_here known script before done left state box now h) in
+    let most = ap length (owed_here first keeps known script before done left state box now h) in
     record {
       taken = h.taken;
       sent = length h.gone + part.0;
       were_taken = h.were_taken;
       least = omega (arith, h.least);
       most = omega (arith, long, most, part.1);
-      why = subst (λ (o : Outside). LinkFailed o new) (sent_part known script before done left state box now part.0 h) part.2;
+      why = subst (λ (o : Outside). LinkFailed o new) (sent_part first keeps known script before done left state box now part.0 h) part.2;
     }
-at_unsent known script before done left state box now new fault.NoMemory h part =
+at_unsent first keeps known script before done left state box now new fault.NoMemory h part =
     let long = length-append h.gone state.owes in
-    let most = ap length (owed_here known script before done left state box now h) in
+    let most = ap length (owed_here first keeps known script before done left state box now h) in
     record {
       taken = h.taken;
       sent = length h.gone + part.0;
       were_taken = h.were_taken;
       least = omega (arith, h.least);
       most = omega (arith, long, most, part.1);
-      why = inl (subst (λ (o : Outside). Starved o new) (sent_part known script before done left state box now part.0 h) part.2);
+      why = inl (subst (λ (o : Outside). Starved o new) (sent_part first keeps known script before done left state box now part.0 h) part.2);
     }
 
 -- ---- the frame that is due
@@ -186,13 +199,16 @@ on_all (Some bytes) taken P front none all =
     subst P (sym (append-nil taken) ∙ ap₂ (λ (xs ys : List ℕ). xs ++ ys) (sym front) (sym none) ∙ take-append-drop (length taken) bytes) all
 
 -- a session that is done
-pub at_over : (known : Known) (script : Script) (before : Outside) (done left : ℕ) (state : EndState) (box : InboxState) (now : Outside) (u : Unit {0}) → At known script before done left state box now
-    → state.owes ≡ [] → state.next ≡ over → Converses known script before (Ok u) now
-at_over known script before done left state box now u h none done_all =
+pub at_over : {X : Type 0} (first keeps : Keeps X) (known : Known) (script : Script) (before : Outside) (done left : ℕ) (state : EndState) (box : InboxState) (now : Outside) (u : Unit {0}) → At first keeps known script before done left state box now
+    → state.owes ≡ [] → state.next ≡ over → ConversesWith known script (KeepsAll script first keeps) before (Ok u) now
+at_over first keeps known script before done left state box now u h none done_all =
     let reads : (more : List ℕ) → reading_from script [] (h.taken ++ more) ≡ good h.taken =
     λ more. h.reads more ∙ ap (λ (s : Script). reading_from s h.taken more) done_all in
     let owes : owed script h.taken ≡ h.gone =
-    owed_here known script before done left state box now h ∙ ap (λ (xs : List ℕ). h.gone ++ xs) none ∙ append-nil h.gone in
+    owed_here first keeps known script before done left state box now h ∙ ap (λ (xs : List ℕ). h.gone ++ xs) none ∙ append-nil h.gone in
+    let wire : wire_for script h.frames ≡ h.wire =
+    ap (wire_for script) (sym (append-nil h.frames)) ∙ h.on_wire []
+    ∙ ap₂ (λ (xs : List ℕ) (s : Script). h.wire ++ (xs ++ wire_for s [])) none done_all ∙ append-nil h.wire in
     let due : AreAwaited script (h.frames ++ []) = h.due [] (subst (λ (s : Script). AreAwaited s []) (sym done_all) tt) in (
       h.taken,
       (
@@ -205,15 +221,16 @@ at_over known script before done left state box now u h none done_all =
       ),
       h.frames,
       record { due = subst (AreAwaited script) (append-nil h.frames) due; bytes = h.bytes },
+      subst (λ (xs : List ℕ). KeepsOn first keeps h.frames xs) (sym wire) h.kept,
     )
 
-module _ (known : Known) (script : Script) (before : Outside) (done left : ℕ) (e : Expect) (next : Frame → Script) (new : Bool) (box : InboxState) (now : Outside) (h : At known script before done left (waiting e next new) box now) where
+module _ {X : Type 0} (first keeps : Keeps X) (known : Known) (script : Script) (before : Outside) (done left : ℕ) (e : Expect) (next : Frame → Script) (new : Bool) (box : InboxState) (now : Outside) (h : At first keeps known script before done left (waiting e next new) box now) where
   -- while the frame that is due is not whole, no more is owed
   owed_within : (part : List ℕ) → length part < frame_length e → owed script (h.taken ++ part) ≡ h.gone
   owed_within part few = h.owes part ∙ ap (λ (xs : List ℕ). h.gone ++ xs) (owed-begun e next part few) ∙ append-nil h.gone
 
   owed_now : owed script h.taken ≡ h.gone
-  owed_now = owed_here known script before done left (waiting e next new) box now h ∙ append-nil h.gone
+  owed_now = owed_here first keeps known script before done left (waiting e next new) box now h ∙ append-nil h.gone
 
   -- what was owed before the last of the bytes that came
   owed_last : (part : List ℕ) → 0 < length part → length part ≤ frame_length e → owed_before (dialogue_of script) (h.taken ++ part) ≡ h.gone
@@ -319,23 +336,23 @@ module _ (known : Known) (script : Script) (before : Outside) (done left : ℕ) 
         why = inr (omega (arith, ap length none), mid_is part after u.took ∙ ap (λ (xs : List ℕ). talked before xs taken) (sym sent));
       }
 
-  pub at_stopped : (why : EndFault) (state' : EndState) (box' : InboxState) (after : Outside) → Hears known e (waiting e next new) box now (Err why) state' box' after
+  pub at_stopped : (Told : Frame → Type 0) (why : EndFault) (state' : EndState) (box' : InboxState) (after : Outside) → Hears known e Told (waiting e next new) box now (Err why) state' box' after
       → Talks known (dialogue_of script) before (Err why) after
-  at_stopped (fault.Bad frame) state' box' after hears = at_refused frame after hears
-  at_stopped (fault.PeerEnded offset) state' box' after hears = at_end offset after hears.0 hears.1
-  at_stopped fault.Link state' box' after hears = at_failed after hears
-  at_stopped fault.NoMemory state' box' after hears = at_unheard after hears
+  at_stopped Told (fault.Bad frame) state' box' after hears = at_refused frame after hears
+  at_stopped Told (fault.PeerEnded offset) state' box' after hears = at_end offset after hears.0 hears.1
+  at_stopped Told fault.Link state' box' after hears = at_failed after hears
+  at_stopped Told fault.NoMemory state' box' after hears = at_unheard after hears
 
   -- the end took the frame
-  pub at_heard : (state' : EndState) (box' : InboxState) (after : Outside) → Heard known e (waiting e next new) box now state' box' after
-      → At known script before (done + 1) (left - 1) state' box' after
-  at_heard state' box' after d =
+  pub at_heard : (keeps' : Keeps X) (state' : EndState) (box' : InboxState) (after : Outside) → Heard known e (KeepsFrame keeps keeps') (waiting e next new) box now state' box' after
+      → At first keeps' known script before (done + 1) (left - 1) state' box' after
+  at_heard keeps' state' box' after d =
       let f : Frame = d.frame in
       let part : List ℕ = layout f in
       let rest : Script = next f in
       let taken : List ℕ = h.taken ++ part in
       let few = h.few in
-      subst (λ (s : EndState). At known script before (done + 1) (left - 1) s box' after) (sym d.goes_on)
+      subst (λ (s : EndState). At first keeps' known script before (done + 1) (left - 1) s box' after) (sym d.goes_on)
       (record {
         frames = h.frames ++ f ∷ [];
         taken = taken;
@@ -362,12 +379,17 @@ module _ (known : Known) (script : Script) (before : Outside) (done left : ℕ) 
         fresh = λ is. absurd (let not : false ≡ true = sym (new-goes_on false rest) ∙ is in cc);
         few = within-goes_on false rest (left - 1) (few.3 f d.valid);
         long = let room = few.2 in omega (arith, h.long, d.valid.long, length-append h.taken part, room);
+        wire = h.wire ++ part;
+        on_wire = λ frames.
+            ap (wire_for script) (append_assoc h.frames (f ∷ []) frames) ∙ h.on_wire (f ∷ frames)
+            ∙ sym (append_assoc h.wire part ((goes_on false rest).owes ++ wire_for (goes_on false rest).next frames) ∙ ap (λ (xs : List ℕ). h.wire ++ (part ++ xs)) (wire-goes_on false rest frames));
+        kept = keeps_on-more first keeps keeps' h.frames (f ∷ []) h.wire part h.kept d.told;
       })
 
 -- ---- the steps of the loop
 
 -- no memory for the inbox
-pub not_begun : (known : Known) (script : Script) (before : Outside) → Converses known script before (Err fault.NoMemory) before
+pub not_begun : (known : Known) (script : Script) (before : Outside) → Talks known (dialogue_of script) before (Err fault.NoMemory) before
 not_begun known script before = record {
   taken = [];
   sent = 0;
@@ -377,32 +399,34 @@ not_begun known script before = record {
   why = inr (omega arith, sym (talked_none before));
 }
 
-pub at_next : (known : Known) (script : Script) (before : Outside) (done left : ℕ) (state state' : EndState) (box box' : InboxState) (now after : Outside) (e : Expect)
-    → At known script before done left state box now → due_frame state ≡ Some e → Heard known e state box now state' box' after → At known script before (done + 1) (left - 1) state' box' after
-at_next known script before done left state state' box box' now after e h is heard =
+pub at_next : {X : Type 0} (first keeps keeps' : Keeps X) (known : Known) (script : Script) (before : Outside) (done left : ℕ) (state state' : EndState) (box box' : InboxState) (now after : Outside) (e : Expect)
+    → At first keeps known script before done left state box now → due_frame state ≡ Some e → Heard known e (KeepsFrame keeps keeps') state box now state' box' after → At first keeps' known script before (done + 1) (left - 1) state' box' after
+at_next first keeps keeps' known script before done left state state' box box' now after e h is heard =
     let wait = waits state e is in
-    at_heard known script before done left e wait.0 state.is_new box now (subst (λ (s : EndState). At known script before done left s box now) wait.1 h) state' box' after
-    (subst (λ (s : EndState). Heard known e s box now state' box' after) wait.1 heard)
+    at_heard first keeps known script before done left e wait.0 state.is_new box now (subst (λ (s : EndState). At first keeps known script before done left s box now) wait.1 h) keeps' state' box' after
+    (subst (λ (s : EndState). Heard known e (KeepsFrame keeps keeps') s box now state' box' after) wait.1 heard)
 
-pub at_cut : (known : Known) (script : Script) (before : Outside) (done left : ℕ) (state state' : EndState) (box box' : InboxState) (now after : Outside) (e : Expect) (why : EndFault)
-    → At known script before done left state box now → due_frame state ≡ Some e → Hears known e state box now (Err why) state' box' after → Converses known script before (Err why) after
-at_cut known script before done left state state' box box' now after e why h is hears =
+pub at_cut : {X : Type 0} (first keeps : Keeps X) (Told : Frame → Type 0) (known : Known) (script : Script) (before : Outside) (done left : ℕ) (state state' : EndState) (box box' : InboxState) (now after : Outside) (e : Expect) (why : EndFault)
+    → At first keeps known script before done left state box now → due_frame state ≡ Some e → Hears known e Told state box now (Err why) state' box' after → Talks known (dialogue_of script) before (Err why) after
+at_cut first keeps Told known script before done left state state' box box' now after e why h is hears =
     let wait = waits state e is in
-    at_stopped known script before done left e wait.0 state.is_new box now (subst (λ (s : EndState). At known script before done left s box now) wait.1 h) why state' box' after
-    (subst (λ (s : EndState). Hears known e s box now (Err why) state' box' after) wait.1 hears)
+    at_stopped first keeps known script before done left e wait.0 state.is_new box now (subst (λ (s : EndState). At first keeps known script before done left s box now) wait.1 h) Told why state' box' after
+    (subst (λ (s : EndState). Hears known e Told s box now (Err why) state' box' after) wait.1 hears)
 
 -- all was sent, and no frame is due
-pub at_done : (known : Known) (script : Script) (before : Outside) (done left : ℕ) (state state' : EndState) (box : InboxState) (now after : Outside)
-    → At known script before done left state box now → after ≡ sent_too now state.owes → state' ≡ record state { owes = [] } → due_frame state' ≡ None → Converses known script before (Ok tt) after
-at_done known script before done left state state' box now after h all_sent next none =
-    let here = at_sent known script before done left state state' box now after h all_sent next in
+pub at_done : {X : Type 0} (first keeps keeps' : Keeps X) (known : Known) (script : Script) (before : Outside) (done left : ℕ) (state state' : EndState) (box : InboxState) (now after : Outside)
+    → At first keeps known script before done left state box now → after ≡ sent_too now state.owes → state' ≡ record state { owes = [] } → KeepsOn keeps keeps' [] state.owes → due_frame state' ≡ None
+    → ConversesWith known script (KeepsAll script first keeps') before (Ok tt) after
+at_done first keeps keeps' known script before done left state state' box now after h all_sent next kept none =
+    let here = at_sent first keeps keeps' known script before done left state state' box now after h all_sent next kept in
     let owes : state'.owes ≡ [] = ap (λ (s : EndState). s.owes) next in
-    at_over known script before done left state' box after tt here owes (is_over state'.owes state'.next owes here.settled none)
+    at_over first keeps' known script before done left state' box after tt here owes (is_over state'.owes state'.next owes here.settled none)
 
 -- the last bytes are sent
-pub at_last : (known : Known) (script : Script) (before : Outside) (done : ℕ) (state state' : EndState) (box : InboxState) (now after : Outside) (r : Result (Unit {0}) EndFault)
-    → At known script before done 0 state box now → SendsAll now state.owes r after → OnOk r (state' ≡ record state { owes = [] }) → Converses known script before r after
-at_last known script before done state state' box now after (Ok u) h all_sent next =
-    let here = at_sent known script before done 0 state state' box now after h all_sent next in
-    at_over known script before done 0 state' box after u here (ap (λ (s : EndState). s.owes) next) (over_within state'.next here.settled here.few)
-at_last known script before done state state' box now after (Err why) h part next = at_unsent known script before done 0 state box now after why h part
+pub at_last : {X : Type 0} (first keeps keeps' : Keeps X) (known : Known) (script : Script) (before : Outside) (done : ℕ) (state state' : EndState) (box : InboxState) (now after : Outside) (r : Result (Unit {0}) EndFault)
+    → At first keeps known script before done 0 state box now → SendsAll now state.owes r after → OnOk r (state' ≡ record state { owes = [] }) → OnOk r (KeepsOn keeps keeps' [] state.owes)
+    → ConversesWith known script (KeepsAll script first keeps') before r after
+at_last first keeps keeps' known script before done state state' box now after (Ok u) h all_sent next kept =
+    let here = at_sent first keeps keeps' known script before done 0 state state' box now after h all_sent next kept in
+    at_over first keeps' known script before done 0 state' box after u here (ap (λ (s : EndState). s.owes) next) (over_within state'.next here.settled here.few)
+at_last first keeps keeps' known script before done state state' box now after (Err why) h part next kept = at_unsent first keeps known script before done 0 state box now after why h part

@@ -1,5 +1,5 @@
 -- A session over the link: how an end sends what it owes, takes the frames that are due, and stops.
-use Rattle.std.specs.Prelude.{◌≡◌, ◌<◌, ◌≤◌, ◌++◌, ℕ, List, [], length, take, drop, Some, Result, Ok, Err, IfSome, IsTrue, option_map}
+use Rattle.std.specs.Prelude.{◌≡◌, ◌<◌, ◌≤◌, ◌++◌, ℕ, List, [], ◌∷◌, length, take, drop, Some, Result, Ok, Err, IfSome, IsTrue, option_map}
 use Rattle.psi_spec.specs.Frames.{Frame, layout}
 use Rattle.psi_base.specs.Outside.{Known, Outside, LinkFailed, Rose, Starved, sent_too}
 use Rattle.psi_base.specs.declared.faults.Fault.{Fault}
@@ -11,7 +11,7 @@ use Rattle.psi_frames.specs.declared.turns.EndFault.TheVariants as fault
 use Rattle.psi_frames.specs.Expected.{IsBegun, IsValid, frame_length, wrong}
 use Rattle.psi_frames.specs.Boxes.{InboxState, with_lent}
 use Rattle.psi_frames.specs.Dialogue.{Talks, WereTaken}
-use Rattle.psi_frames.specs.Script.{EndState, IsRead, Script, after_taking, dialogue_of}
+use Rattle.psi_frames.specs.Script.{EndState, IsRead, Keeps, KeepsOn, Script, after_taking, dialogue_of, wire_for}
 
 -- why a session ends where a send is refused
 abbrev pub send_fault : Fault → EndFault
@@ -56,14 +56,15 @@ Fills known e box old (Err (fault.PeerEnded offset)) box' new = (offset ≡ box.
 Fills known e box old (Err fault.Link) box' new = LinkFailed old new
 Fills known e box old (Err _) box' new = ⊥
 
--- the frame that is due was taken
-pub record Heard (known : Known) (e : Expect) (state : EndState) (box : InboxState) (old : Outside)
-    (state' : EndState) (box' : InboxState) (new : Outside) : Type 0 where
+-- the frame that is due was taken, and this was told of it
+pub record Heard (known : Known) (e : Expect) (Told : Frame → Type 0) (state : EndState) (box : InboxState)
+    (old : Outside) (state' : EndState) (box' : InboxState) (new : Outside) : Type 0 where
   pub frame : Frame
   pub valid : IsValid e frame
   pub took : Took known old (layout frame) new
   pub goes_on : state' ≡ after_taking frame state
   pub lent : box' ≡ with_lent e box
+  pub told : Told frame
 
 -- a field of the bytes that came is the first wrong one
 pub record Refused (known : Known) (e : Expect) (box : InboxState) (old : Outside) (frame : BadFrame) (new : Outside)
@@ -89,18 +90,34 @@ pub record Unheard (known : Known) (e : Expect) (state : EndState) (old new : Ou
   pub took : Took known old (layout frame) new
   pub early : IsTrue state.is_new
 
--- what the wait for the frame that is due may answer and leave
-abbrev pub Hears : Known → Expect → EndState → InboxState → Outside → Result (Unit {0}) EndFault → EndState → InboxState
-    → Outside → Type 0
-Hears known e state box old (Ok _) state' box' new = Heard known e state box old state' box' new
-Hears known e state box old (Err (fault.Bad frame)) state' box' new = Refused known e box old frame new
-Hears known e state box old (Err (fault.PeerEnded offset)) state' box' new =
+-- what the wait for the frame that is due may answer and leave, where this is told of a frame that was taken
+abbrev pub Hears : Known → Expect → (Frame → Type 0) → EndState → InboxState → Outside → Result (Unit {0}) EndFault
+    → EndState → InboxState → Outside → Type 0
+Hears known e Told state box old (Ok _) state' box' new = Heard known e Told state box old state' box' new
+Hears known e Told state box old (Err (fault.Bad frame)) state' box' new = Refused known e box old frame new
+Hears known e Told state box old (Err (fault.PeerEnded offset)) state' box' new =
     (offset ≡ box.offset) × Stopped known e old (λ mid. PeerEnded mid new)
-Hears known e state box old (Err fault.Link) state' box' new = Stopped known e old (λ mid. LinkFailed mid new)
-Hears known e state box old (Err fault.NoMemory) state' box' new = Unheard known e state old new
+Hears known e Told state box old (Err fault.Link) state' box' new = Stopped known e old (λ mid. LinkFailed mid new)
+Hears known e Told state box old (Err fault.NoMemory) state' box' new = Unheard known e state old new
+
+-- what an end keeps went on with a frame that it took
+abbrev pub KeepsFrame : {End : Type 0} → Keeps End → Keeps End → Frame → Type 0
+KeepsFrame old new frame = KeepsOn old new (frame ∷ []) (layout frame)
+
+-- what an end keeps went on with all frames that its script awaits, and with all that then stands on the wire
+abbrev pub KeepsAll : {End : Type 0} → Script → Keeps End → Keeps End → List Frame → Type 0
+KeepsAll script old new frames = KeepsOn old new frames (wire_for script frames)
 
 -- what a session of an end with this script may answer and leave: the bytes that were taken are those of all frames
--- that it awaits, or the session ended early
+-- that it awaits, of which this is told, or the session ended early
+abbrev pub ConversesWith : Known → Script → (List Frame → Type 0) → Outside → Result (Unit {0}) EndFault → Outside
+    → Type 0
+ConversesWith known script Told before (Ok _) after =
+    (taken : List ℕ) × Talks known (dialogue_of script) before (Ok taken) after
+    × (frames : List Frame) × IsRead script frames taken × Told frames
+ConversesWith known script Told before (Err why) after = Talks known (dialogue_of script) before (Err why) after
+
+-- the same, where nothing more is told
 abbrev pub Converses : Known → Script → Outside → Result (Unit {0}) EndFault → Outside → Type 0
 Converses known script before (Ok _) after =
     (taken : List ℕ) × Talks known (dialogue_of script) before (Ok taken) after

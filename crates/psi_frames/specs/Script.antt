@@ -54,6 +54,13 @@ owed_for (sends out rest) frames = out ++ owed_for rest frames
 owed_for (awaits e next) [] = []
 owed_for (awaits e next) (f ∷ frames) = owed_for (next f) frames
 
+-- all that stands on the wire once these frames of the peer were taken: what a script sends and what it takes, in order
+abbrev pub wire_for : Script → List Frame → List ℕ
+wire_for over frames = []
+wire_for (sends out rest) frames = out ++ wire_for rest frames
+wire_for (awaits e next) [] = []
+wire_for (awaits e next) (f ∷ frames) = layout f ++ wire_for (next f) frames
+
 -- these frames, one after another, are all that a script awaits
 abbrev pub AreAwaited : Script → List Frame → Type 0
 AreAwaited over [] = ⊤
@@ -139,3 +146,14 @@ turn_of state = next_turn state.owes state.next
 pub record IsPending (pending owes : List ℕ) : Type 0 where
   pub front : take (length pending) owes ≡ pending
   pub some : pending ≡ [] → owes ≡ []
+
+-- what an end keeps of its session: what stands of it against an end that it was before, once these frames were taken
+-- and these bytes went over the wire
+abbrev pub Keeps : Type 0 → Type 1
+Keeps End = End → List Frame → List ℕ → Type 0
+
+-- what was kept goes on with these frames and these bytes
+abbrev pub KeepsOn : {End : Type 0} → Keeps End → Keeps End → List Frame → List ℕ → Type 0
+KeepsOn {End} old new frames bytes =
+    (first : End) (before : List Frame) (wire : List ℕ)
+    → old first before wire → new first (before ++ frames) (wire ++ bytes)

@@ -1,7 +1,9 @@
 // One end of a session, as a machine over frames.
-ghost use Rattle.std.specs.Prelude.{◌≡◌, ◌≤◌, ℕ, List, length, IsTrue, IfOk, OnErr, OnOk};
+ghost use Rattle.std.specs.Prelude.{◌≡◌, ◌≤◌, ℕ, [], List, length, take, IsTrue, IfOk, OnErr, OnOk};
+ghost use Rattle.psi_frames.specs.Converse.{KeepsFrame};
 ghost use Rattle.psi_frames.specs.Expected.{seen};
 ghost use Rattle.psi_frames.specs.Script.{EndState, IsPending, MayCome, after_sending, after_taking, due_frame, turn_of};
+ghost use Rattle.psi_frames.specs.Script.{Keeps, KeepsOn};
 
 use crate::expect::Expect;
 use crate::frame::Frame;
@@ -16,6 +18,10 @@ pub trait End {
     /// The bytes that `pending` gives.
     ghost front: { Self → List ℕ };
 
+    /// What stands of it against the end that it was before, once these frames were taken, and these bytes sent and
+    /// taken, in the order of the wire.
+    ghost keeps: { Self → Keeps Self };
+
     /// The frame that is due, or None while bytes are owed or once all is done.
     fn expect(&self) -> Option<Expect>
         ensures { result ≡ due_frame (state self.now) };
@@ -27,6 +33,7 @@ pub trait End {
         requires { MayCome (due_frame (state self.old)) (seen frame.now) }
         ensures taken { OnOk result (state self.new ≡ after_taking (seen frame.now) (state self.old)) }
         ensures turn { IfOk result (λ turn. turn ≡ turn_of (state self.new)) }
+        ensures keeps { OnOk result (KeepsFrame (keeps self.old) (keeps self.new) (seen frame.now)) }
         ensures early { OnErr result (IsTrue (state self.old).is_new) }
         ensures kept { OnErr result (state self.new ≡ state self.old) };
 
@@ -38,5 +45,6 @@ pub trait End {
     /// The first `n` of the pending bytes were sent.
     fn sent(&mut self, n: usize)
         requires { n ≤ length (front self.old) }
-        ensures { state self.new ≡ after_sending n (state self.old) };
+        ensures state { state self.new ≡ after_sending n (state self.old) }
+        ensures keeps { KeepsOn (keeps self.old) (keeps self.new) [] (take n (front self.old)) };
 }

@@ -1,8 +1,8 @@
 // A session of an end over the link.
 ghost use Rattle.std.specs.Prelude.{◌≡◌, ◌<◌, [], length, None, Some, OnOk, IsTrue};
 ghost use Rattle.psi_frames.specs.Boxes.{MayExpect, missing_of};
-ghost use Rattle.psi_frames.specs.Converse.{Converses, Fills, Hears, SendsAll};
-ghost use Rattle.psi_frames.specs.Script.{IsSettled, IsWithin, due_frame, over, script_of};
+ghost use Rattle.psi_frames.specs.Converse.{ConversesWith, Fills, Hears, KeepsAll, KeepsFrame, SendsAll};
+ghost use Rattle.psi_frames.specs.Script.{IsSettled, IsWithin, KeepsOn, due_frame, over, script_of};
 
 use crate::end::End;
 use crate::expect::Expect;
@@ -19,6 +19,7 @@ fn send_owed<E: End, W: World>(end: &mut E, world: &mut W) -> Result<(), EndFaul
     requires { IsTrue (W.outside world.old).ready }
     ensures sends { SendsAll (W.outside world.old) (E.state end.old).owes result (W.outside world.new) }
     ensures state { OnOk result (E.state end.new ≡ record (E.state end.old) { owes = [] }) }
+    ensures keeps { OnOk result (KeepsOn (E.keeps end.old) (E.keeps end.new) [] (E.state end.old).owes) }
 {
     while !end.pending().is_empty() {
         let count = world.send(end.pending())?;
@@ -66,8 +67,8 @@ fn hear<E: End, W: World>(
     requires empty { inbox.old.held ≡ [] }
     requires calm { inbox.old.refused ≡ None }
     requires room { 0 < length buffer.old }
-    ensures { Hears W.known expect.now (E.state end.old) inbox.old (W.outside world.old) result
-        (E.state end.new) inbox.new (W.outside world.new) }
+    ensures { Hears W.known expect.now (KeepsFrame (E.keeps end.old) (E.keeps end.new)) (E.state end.old) inbox.old
+        (W.outside world.old) result (E.state end.new) inbox.new (W.outside world.new) }
 {
     loop {
         receive(inbox, expect, world, buffer)?;
@@ -96,7 +97,8 @@ pub fn converse<E: End, W: World>(
     requires ready { IsTrue (W.outside world.old).ready }
     requires settled { IsSettled (E.state end.old).next }
     requires few { IsWithin most_frames (E.state end.old).next }
-    ensures converses { Converses W.known (script_of (E.state end.old)) (W.outside world.old) result
+    ensures converses { ConversesWith W.known (script_of (E.state end.old))
+        (KeepsAll (script_of (E.state end.old)) (E.keeps end.old) (E.keeps end.new)) (W.outside world.old) result
         (W.outside world.new) }
     ensures owes { OnOk result ((E.state end.new).owes ≡ []) }
     ensures done { OnOk result ((E.state end.new).next ≡ over) }

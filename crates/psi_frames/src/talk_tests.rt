@@ -1,5 +1,5 @@
 // A whole session of a small end over a link in memory, whatever pieces its bytes come and go in.
-ghost use Rattle.std.specs.Prelude.{◌≡◌, ◌≤◌, [], true, false, length, IsTrue, IfOk, OnErr, OnOk};
+ghost use Rattle.std.specs.Prelude.{◌≡◌, ◌≤◌, [], ◌∷◌, ◌++◌, true, false, length, take, IsTrue, IfOk, OnErr, OnOk, ⊤};
 ghost use Rattle.psi_frames.specs.Expected.{seen};
 ghost use Rattle.psi_frames.specs.Script.{IsPending, MayCome, after_sending, after_taking, awaits, due_frame, over, sends, turn_of};
 
@@ -32,6 +32,8 @@ impl End for Echo {
       | echo.Answering rest ↦ record { owes = rest.now; next = awaits due.Done (λ _. over); is_new = false }
       | echo.Over ↦ record { owes = []; next = over; is_new = false }
     ] };
+
+    ghost keeps = { λ e first frames wire. ⊤ };
 
     ghost front = { elim [ echo.First ↦ [] | echo.Answering rest ↦ rest.now | echo.Over ↦ [] ] };
 

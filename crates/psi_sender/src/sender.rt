@@ -1,5 +1,5 @@
 // The sender's end as a machine over frames.
-ghost use Rattle.std.specs.Prelude.{◌≡◌, None};
+ghost use Rattle.std.specs.Prelude.{◌≡◌, None, ⊤};
 ghost use Rattle.psi_spec.specs.Deals.{IsSenderDeal};
 
 use crate::session::Session;
@@ -58,6 +58,8 @@ impl<'a> End for SenderCore<'a> {
     ghost state = { λ e. state_of e };
 
     ghost front = { λ e. front_of e };
+
+    ghost keeps = { λ e first frames wire. ⊤ };
 
     fn expect(&self) -> Option<Expect> {
         match &self.session {

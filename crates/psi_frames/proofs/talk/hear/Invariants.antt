@@ -7,7 +7,7 @@ use Rattle.psi_frames.proofs.talk.hear.Given as goal
 abbrev pub invariant-loop-inbox : goal.invariant-loop-inbox
 invariant-loop-inbox g l = record {
   came : CameSoFar g.W.World.known l.expect l.fn.inbox (g.W.World.outside l.fn.world) l.inbox (g.W.World.outside l.world);
-  state : g.E.End.state l.end ≡ g.E.End.state l.fn.end;
+  same : l.end ≡ l.fn.end;
 }
 
 abbrev pub decreases-loop-inbox : goal.decreases-loop-inbox

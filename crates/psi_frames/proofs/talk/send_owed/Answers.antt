@@ -11,5 +11,5 @@ loop-world-preserved g c =
     let pending = c.pending-in-loop-world.ensures in
     let sends = c.in_ok-count.ensures in
     sent_more (outside c.args.world.now) (outside c.loop-world.world) (outside c.send.new.self) (state c.args.end.now) (state c.loop-world.end) (state c.sent.new.self)
-    (g.E.End.front c.loop-world.end) k c.loop-world.invariant pending.pending
-    (subst (λ (xs : List ℕ). k ≤ length xs) pending.gives sends.1) (subst (λ (xs : List ℕ). outside c.send.new.self ≡ sent_too (outside c.loop-world.world) (take k xs)) pending.gives sends.2) c.sent.ensures
+    (g.E.End.keeps c.args.end.now) (g.E.End.keeps c.loop-world.end) (g.E.End.keeps c.sent.new.self) (g.E.End.front c.loop-world.end) k c.loop-world.invariant pending.pending
+    (subst (λ (xs : List ℕ). k ≤ length xs) pending.gives sends.1) (subst (λ (xs : List ℕ). outside c.send.new.self ≡ sent_too (outside c.loop-world.world) (take k xs)) pending.gives sends.2) c.sent.ensures.state c.sent.ensures.keeps

@@ -1,8 +1,10 @@
 use Rattle.std.proofs.Common.{sym, ap, subst}
-use Rattle.psi_frames.specs.Converse.{Converses}
-use Rattle.psi_frames.specs.Script.{EndState, IsWithin, script_of}
+use Rattle.std.specs.Prelude.{⊤}
+use Rattle.psi_frames.specs.Converse.{Converses, KeepsAll}
+use Rattle.psi_frames.specs.Script.{EndState, IsWithin, Keeps, script_of}
 use Rattle.psi_sender.specs.Script.{sender_script}
-use Rattle.psi_sender.specs.Running.{state_in}
+use Rattle.psi_frames.proofs.Scripts.{converses_so}
+use Rattle.psi_sender.specs.Running.{SenderState, state_in, state_of}
 use Rattle.psi_sender.proofs.Within.{within_script, begun_so}
 use Rattle.psi_sender.proofs.run.run_sender.Goals as goal
 
@@ -16,5 +18,11 @@ pub returns : goal.returns
 returns g c =
     let core = c.args.core.now in
     let begins = ap (state_in core.deal core.items) c.requires.new in
-    begun_so g.W.World.known (sender_script core.deal core.items) (g.W.World.outside c.args.world.now) (g.W.World.outside c.converse.new.world) c.converse.result
-    (subst (λ (state : EndState). Converses g.W.World.known (script_of state) (g.W.World.outside c.args.world.now) c.converse.result (g.W.World.outside c.converse.new.world)) begins c.converse.ensures.converses)
+    let known = g.W.World.known in
+    let before = g.W.World.outside c.args.world.now in
+    let after = g.W.World.outside c.converse.new.world in
+    let kept : Keeps SenderState = λ first frames wire. ⊤ in
+    let script = script_of (state_of core) in
+    let told = converses_so known script (KeepsAll script kept kept) before c.converse.result after c.converse.ensures.converses in
+    begun_so known (sender_script core.deal core.items) before after c.converse.result
+    (subst (λ (state : EndState). Converses known (script_of state) before c.converse.result after) begins told)
