@@ -53,7 +53,7 @@ behind_block n tags is some up =
     (cases_lt (length tags) 1024) in
     subst Rising (ap₂ (λ (x : List ℕ) (xs : List (List ℕ)). x ∷ xs) (sym last) behind) (Rising-from (n - 1) tags (omega arith) up)
 
-take-zeros : (width n : ℕ) → width ≤ n → take width (replicate {A = ℕ} n 0) ≡ replicate width 0
+pub take-zeros : (width n : ℕ) → width ≤ n → take width (replicate {A = ℕ} n 0) ≡ replicate width 0
 take-zeros zero n l = refl
 take-zeros (suc width) zero l = absurd (omega arith)
 take-zeros (suc width) (suc n) l = ap (λ (xs : List ℕ). 0 ∷ xs) (take-zeros width n (omega arith))
@@ -72,12 +72,12 @@ from_zeros width (tag ∷ tags) l all up = λ k d low within. at k d within
         ap (λ (n : ℕ). is_below (get_or (take width no_floor ∷ tag ∷ tags) n d) (get_or (tag ∷ tags) k d)) next ∙ up k d (omega arith) (omega arith)
 
 module _ (P : List ℕ → Type 0) where
-  all-take : (n : ℕ) (xs : List (List ℕ)) → AllByRecursion P xs → AllByRecursion P (take n xs)
+  pub all-take : (n : ℕ) (xs : List (List ℕ)) → AllByRecursion P xs → AllByRecursion P (take n xs)
   all-take zero xs all = tt
   all-take (suc n) [] all = tt
   all-take (suc n) (x ∷ xs) all = (all.0, all-take n xs all.1)
 
-  all-drop : (n : ℕ) (xs : List (List ℕ)) → AllByRecursion P xs → AllByRecursion P (drop n xs)
+  pub all-drop : (n : ℕ) (xs : List (List ℕ)) → AllByRecursion P xs → AllByRecursion P (drop n xs)
   all-drop zero xs all = all
   all-drop (suc n) [] all = tt
   all-drop (suc n) (x ∷ xs) all = all-drop n xs all.1

@@ -1,7 +1,6 @@
 -- A receiver takes a sender's stream, and nothing else, and sends its own for it; both stand woven on the wire.
-use Rattle.std.proofs.Common.{◌≡◌, ◌≤◌, ◌+◌, ◌∙◌, ℕ, Bool, suc, zero, Option, None, List, [], ◌∷◌, ◌++◌, length, take, drop, refl, sym, ap, ap₂, subst, arith, append_assoc, length-append}
+use Rattle.std.proofs.Common.{◌≡◌, ◌≤◌, ◌+◌, ◌∙◌, ℕ, suc, zero, List, [], ◌∷◌, ◌++◌, length, take, drop, refl, sym, ap, ap₂, subst, arith, append_assoc, length-append}
 use Rattle.std.specs.List.{AllByRecursion, concat, flat_map}
-use Rattle.std.proofs.lemmas.Bool.{le-ltb}
 use Rattle.std.proofs.lemmas.Bool.Decides.{nat_tests}
 use Rattle.std.proofs.lemmas.List.{append-nil, take_at, drop_at}
 use Rattle.std.proofs.lemmas.List.Elements.{All-from_recursion, recursion_from_All}
@@ -16,29 +15,22 @@ use Rattle.psi_spec.proofs.StreamSizes.{sessions_are_woven}
 use Rattle.psi_frames.specs.Dialogue.{good}
 use Rattle.psi_frames.specs.declared.expect.Expect.TheVariants as expect
 use Rattle.psi_frames.specs.Expected.{IsValid, frame_at, frame_length, wrong}
-use Rattle.psi_frames.specs.Script.{AreAwaited, Script, awaits, by_fault, by_front, over, owed_for, sends}
-use Rattle.psi_frames.specs.declared.expect.Expect.{Expect}
-use Rattle.psi_frames.specs.declared.reasons.Reason.{Reason}
+use Rattle.psi_frames.specs.Script.{AreAwaited, Script, awaits, over, owed_for, sends, wire_for}
 use Rattle.psi_frames.specs.Valid.{HasParts}
 use Rattle.psi_frames.proofs.FrameAt.{frame_at_layout}
 use Rattle.psi_frames.proofs.Parts.{valid_by_parts, valid_from_parts}
+use Rattle.psi_frames.proofs.Scripts.{by_front-whole}
 use Rattle.psi_frames.proofs.Readings.{owes_all, reads_awaited, reads_frames}
 use Rattle.psi_receiver.specs.Laws.{HearsNothingElse, HearsStreams, IsStreamFor, own_stream, receiver_dialogue, wire_of}
 use Rattle.psi_receiver.specs.Script.{answers_hello, awaits_blocks, awaits_lists, count_in, floor_after, no_floor, receiver_script, tags_at}
 use Rattle.psi_receiver.proofs.Awaited.{WereLists, block_list, block_list-frames, bytes-left, bytes-right, lists_awaited, lists_list, lists_list-bytes, lists_owed, lists_read}
 
--- a whole frame stands at the front
-front_whole : {A : Type 0} (e : Expect) (bytes : List ℕ) (refused : Reason → A) (begun : A) (whole : Frame → A)
-    → wrong e (take (frame_length e) bytes) ≡ None → frame_length e ≤ length bytes → by_front e bytes refused begun whole ≡ whole (frame_at e (take (frame_length e) bytes))
-front_whole e bytes refused begun whole right long =
-    ap₂ (λ (o : Option Reason) (few : Bool). by_fault o few refused begun whole (frame_at e (take (frame_length e) bytes))) right (le-ltb (length bytes) (frame_length e) long)
-
 -- the tags of a deal are short
-width_of : (deal : ReceiverDeal) → IsReceiverDeal deal → deal.tag_length ≤ 16
+pub width_of : (deal : ReceiverDeal) → IsReceiverDeal deal → deal.tag_length ≤ 16
 width_of deal is = let fits = is.tag_length in grind (arith, nat_tests)
 
 -- the frames of a sender's stream
-abbrev stream_frames : ReceiverDeal → ℕ → List (List (List ℕ)) → List Frame
+abbrev pub stream_frames : ReceiverDeal → ℕ → List (List (List ℕ)) → List Frame
 stream_frames deal count lists = sender_hello deal.id deal.session count ∷ lists_list 0 lists
 
 stream_bytes : (deal : ReceiverDeal) (count : ℕ) (lists : List (List (List ℕ)))
@@ -74,14 +66,7 @@ answered deal placed count lists bytes stream =
 
 -- ---- the wire
 
--- all that stands on the wire for these frames
-abbrev wired : Script → List Frame → List ℕ
-wired over frames = []
-wired (sends out rest) frames = out ++ wired rest frames
-wired (awaits e next) [] = []
-wired (awaits e next) (f ∷ frames) = layout f ++ wired (next f) frames
-
-wire_of-awaited : (script : Script) (frames : List Frame) → AreAwaited script frames → wire_of script (flat_map layout frames) ≡ wired script frames
+wire_of-awaited : (script : Script) (frames : List Frame) → AreAwaited script frames → wire_of script (flat_map layout frames) ≡ wire_for script frames
 wire_of-awaited over [] due = refl
 wire_of-awaited over (f ∷ frames) due = absurd due
 wire_of-awaited (sends out rest) frames due = ap (λ (xs : List ℕ). out ++ xs) (wire_of-awaited rest frames due)
@@ -92,23 +77,23 @@ wire_of-awaited (awaits e next) (f ∷ frames) due =
     let valid : IsValid e f = due.0 in
     let front : take (frame_length e) bytes ≡ layout f = take_at (layout f) more (frame_length e) valid.long in
     let back : drop (frame_length e) bytes ≡ more = drop_at (layout f) more (frame_length e) valid.long in
-    front_whole e bytes (λ why. []) [] (λ frame. take (frame_length e) bytes ++ wire_of (next frame) (drop (frame_length e) bytes))
+    by_front-whole e bytes (λ why. []) [] (λ frame. take (frame_length e) bytes ++ wire_of (next frame) (drop (frame_length e) bytes))
     (ap (wrong e) front ∙ valid.right) (omega (arith, valid.long, length-append (layout f) more))
     ∙ ap₂ (λ (frame : Frame) (xs : List ℕ). take (frame_length e) bytes ++ wire_of (next frame) xs) (ap (frame_at e) front ∙ frame_at_layout e f valid) back
     ∙ ap₂ (λ (a b : List ℕ). a ++ b) front (wire_of-awaited (next f) frames due.1)
 
 blocks_wired : (width count list block left : ℕ) (floor : List ℕ) (rest : Script) (tags : List (List ℕ)) (frames : List Frame)
-    → wired (awaits_blocks width count list block left floor rest) (block_list list block left tags ++ frames)
-    ≡ flat_map layout (block_list list block left tags) ++ wired rest frames
+    → wire_for (awaits_blocks width count list block left floor rest) (block_list list block left tags ++ frames)
+    ≡ flat_map layout (block_list list block left tags) ++ wire_for rest frames
 blocks_wired width count list block zero floor rest tags frames = refl
 blocks_wired width count list block (suc left) floor rest tags frames =
     let f : Frame = tags_frame list block (concat (take 1024 tags)) in
     ap (λ (xs : List ℕ). layout f ++ xs)
     (blocks_wired width count list (block + 1) left (floor_after width (tags_at count block) f) rest (drop 1024 tags) frames)
-    ∙ sym (append_assoc (layout f) (flat_map layout (block_list list (block + 1) left (drop 1024 tags))) (wired rest frames))
+    ∙ sym (append_assoc (layout f) (flat_map layout (block_list list (block + 1) left (drop 1024 tags))) (wire_for rest frames))
 
 lists_wired : (width count list left : ℕ) (lists : List (List (List ℕ))) → length lists ≡ left → AllByRecursion (IsTagList width count) lists
-    → wired (awaits_lists width count list left) (lists_list list lists) ≡ lists_frames list lists ++ layout done_frame
+    → wire_for (awaits_lists width count list left) (lists_list list lists) ≡ lists_frames list lists ++ layout done_frame
 lists_wired width count list zero [] same each = append-nil (layout done_frame)
 lists_wired width count list zero (tags ∷ lists) same each = absurd (omega arith)
 lists_wired width count list (suc left) [] same each = absurd (omega arith)
@@ -118,15 +103,15 @@ lists_wired width count list (suc left) (tags ∷ lists) same each =
     let first : List Frame = block_list list 0 (blocks_for (length tags)) tags in
     let behind : List Frame = lists_list (list + 1) lists in
     let count_is : blocks_for count ≡ blocks_for (length tags) = ap (λ (n : ℕ). blocks_for n) (sym is.size) in
-    ap (λ (n : ℕ). wired (awaits_blocks width count list 0 n no_floor rest) (first ++ behind)) count_is
+    ap (λ (n : ℕ). wire_for (awaits_blocks width count list 0 n no_floor rest) (first ++ behind)) count_is
     ∙ blocks_wired width count list 0 (blocks_for (length tags)) no_floor rest tags behind
     ∙ ap₂ (λ (a b : List ℕ). a ++ b) (block_list-frames list tags) (lists_wired width count (list + 1) left lists (omega arith) each.1)
     ∙ sym (append_assoc (list_frames list tags) (lists_frames (list + 1) lists) (layout done_frame))
 
 -- a receiver and the frames of a sender's stream
-wired_whole : (deal : ReceiverDeal) (placed : List Placed) (count : ℕ) (lists : List (List (List ℕ))) (bytes : List ℕ) → IsReceiverDeal deal
+pub wired_whole : (deal : ReceiverDeal) (placed : List Placed) (count : ℕ) (lists : List (List (List ℕ))) (bytes : List ℕ) → IsReceiverDeal deal
     → IsStreamFor deal count lists bytes
-    → wired (receiver_script deal placed) (stream_frames deal count lists) ≡ weave (own_stream deal placed) (lists_stream deal.id deal.session count lists)
+    → wire_for (receiver_script deal placed) (stream_frames deal count lists) ≡ weave (own_stream deal placed) (lists_stream deal.id deal.session count lists)
 unfolding receiver_script receiver_stream
 wired_whole deal placed count lists bytes is stream =
     let hello : List ℕ = layout (receiver_hello deal.id deal.session (length placed)) in
@@ -174,9 +159,16 @@ hello_read deal f bytes valid = by_parts f ((valid_by_parts (expect.SenderHello 
     by_parts (tags_frame list block tags) parts = absurd parts
     by_parts done_frame parts = absurd parts
 
--- the frames that a receiver awaited are those of a sender's stream
-were_stream : (deal : ReceiverDeal) (placed : List Placed) (frames : List Frame) → IsReceiverDeal deal → AreBytes (flat_map layout frames)
-    → AreAwaited (receiver_script deal placed) frames → (count : ℕ) × (lists : List (List (List ℕ))) × IsStreamFor deal count lists (flat_map layout frames)
+-- frames are those of a sender's stream with a count and lists
+pub record AreStream (deal : ReceiverDeal) (frames : List Frame) : Type 0 where
+  pub count : ℕ
+  pub lists : List (List (List ℕ))
+  pub frames_are : frames ≡ stream_frames deal count lists
+  pub stream : IsStreamFor deal count lists (flat_map layout frames)
+
+-- the frames that a receiver awaited are so
+pub were_stream : (deal : ReceiverDeal) (placed : List Placed) (frames : List Frame) → IsReceiverDeal deal → AreBytes (flat_map layout frames)
+    → AreAwaited (receiver_script deal placed) frames → AreStream deal frames
 unfolding receiver_script
 were_stream deal placed [] is bytes due = absurd due
 were_stream deal placed (f ∷ frames) is bytes due =
@@ -185,16 +177,19 @@ were_stream deal placed (f ∷ frames) is bytes due =
     let later : AreAwaited (awaits_lists deal.tag_length count 0 (3 + deal.stash)) frames =
     subst (λ (g : Frame). AreAwaited (answers_hello deal placed (count_in g)) frames) hello.1 due.1 in
     let rest : WereLists deal.tag_length count 0 (3 + deal.stash) frames =
-    lists_read deal.tag_length count 0 (3 + deal.stash) frames (width_of deal is) (bytes-right (layout f) (flat_map layout frames) bytes) later in (
-      count,
-      rest.lists,
-      record {
+    lists_read deal.tag_length count 0 (3 + deal.stash) frames (width_of deal is) (bytes-right (layout f) (flat_map layout frames) bytes) later in
+    let all : f ∷ frames ≡ stream_frames deal count rest.lists = ap₂ (λ (g : Frame) (gs : List Frame). g ∷ gs) hello.1 rest.frames_are in
+    record {
+      count = count;
+      lists = rest.lists;
+      frames_are = all;
+      stream = record {
         few = hello.2;
         size = rest.many;
         each = All-from_recursion (IsTagList deal.tag_length count) rest.lists rest.each;
-        is = ap (flat_map layout) (ap₂ (λ (g : Frame) (gs : List Frame). g ∷ gs) hello.1 rest.frames_are) ∙ sym (stream_bytes deal count rest.lists);
-      },
-    )
+        is = ap (flat_map layout) all ∙ sym (stream_bytes deal count rest.lists);
+      };
+    }
 
 pub hears_nothing_else : HearsNothingElse
 unfolding receiver_dialogue
@@ -202,4 +197,4 @@ hears_nothing_else deal placed bytes taken is small h =
     let stream = (reads_frames (receiver_script deal placed) [] bytes (good taken) small).0 h in
     let front : AreBytes (flat_map layout stream.frames) = bytes-left (flat_map layout stream.frames) stream.rest (subst AreBytes stream.split small) in
     let found = were_stream deal placed stream.frames is front stream.due in
-    (found.0, found.1, subst (IsStreamFor deal found.0 found.1) (sym stream.taken_is) found.2)
+    (found.count, found.lists, subst (IsStreamFor deal found.count found.lists) (sym stream.taken_is) found.stream)

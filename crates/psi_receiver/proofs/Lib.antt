@@ -1,3 +1,18 @@
+pub mod Gathering
+pub mod RowCodes
+pub mod Unmarking
 pub mod Merging
 pub mod Awaited
 pub mod Hearing
+pub mod Marks
+pub mod Shown
+pub mod Hits
+mod Coming
+mod Going
+mod Wires
+mod Within
+mod Kept
+mod Received
+mod Holding
+mod Taking
+mod Beginning

@@ -21,7 +21,7 @@ use Rattle.psi_receiver.specs.Marking.{IsBlock, PartsAt, not_above, padded_tags,
 
 -- ---- the order of tags
 
-weak : IsStrictWeakOrder is_below
+pub weak : IsStrictWeakOrder is_below
 weak = ranks_by nat_list_cmp_total (λ (x : List ℕ). x)
 
 turned : (r s : Ordering) → r ≡ ordering_reverse s → is_lt r ≡ is_gt s

@@ -1,3 +1,10 @@
 pub mod Marking
+pub mod Slots
+pub mod Own
+pub mod Unmarked
 pub mod Script
 pub mod Laws
+pub mod Receiving
+pub mod Phases
+pub mod Running
+pub mod Logging

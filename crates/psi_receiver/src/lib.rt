@@ -1,11 +1,27 @@
-//! Parts of the receiver's end of a session: the laws of what it does, frame by frame, and how it finds its own tags in
-//! the sender's lists.
+//! The receiver's end of a session: it finds its own tags in the sender's lists, as a machine over frames.
 #![tactic(auto)]
 
+mod blocks;
+mod finding;
 pub mod laws;
+mod logged;
 mod marking;
-
-pub use marking::mark;
-
+mod memory;
+mod own;
+mod phase;
+mod preparing;
+mod receiver;
+mod rows;
+mod run;
+mod session;
+#[cfg(test)]
+mod session_tests;
+mod steps;
 #[cfg(test)]
 mod tests;
+
+pub use logged::LoggedReceiver;
+pub use marking::mark;
+pub use receiver::ReceiverCore;
+pub use rows::row_words;
+pub use run::run_receiver;

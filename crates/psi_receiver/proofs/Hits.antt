@@ -1,0 +1,132 @@
+-- The items that are shown by the marks of all frames are those that are hit in the sender's lists.
+use Rattle.std.proofs.Common.{◌≡◌, ◌<◌, ◌≤◌, ◌+◌, ◌*◌, ◌/◌, ℕ, suc, zero, Bool, false, cond, List, [], ◌∷◌, ◌++◌, length, map, take, drop, get_or, Some, option_map, refl, sym, ap, ap₂, subst, ◌∙◌, arith, append_assoc}
+use Rattle.std.specs.List.{AllByRecursion, All, concat, list_any, slice_get}
+use Rattle.std.specs.Str.{bytes_eq}
+use Rattle.std.proofs.lemmas.Bool.{eq-eqb, ne_eqb}
+use Rattle.std.proofs.lemmas.Bool.Decides.{nat_tests}
+use Rattle.std.proofs.lemmas.List.{append-nil, ext_get_or, get_or-map, length-drop, length-map, map-append, take-append-drop}
+use Rattle.std.proofs.lemmas.List.Elements.{recursion_from_All}
+use Rattle.std.proofs.lemmas.Nat.{div-mul-add}
+use Rattle.std.proofs.lemmas.Option.{slice_get-get_or, slice_get-map}
+use Rattle.psi_spec.specs.Deals.{IsReceiverDeal, ReceiverDeal}
+use Rattle.psi_spec.specs.Formulas.{padded}
+use Rattle.psi_spec.specs.Frames.{Frame, sender_hello, tags_of}
+use Rattle.psi_spec.specs.Hits.{is_hit, list_of_slot}
+use Rattle.psi_spec.specs.Limits.{bins_for, rows_for}
+use Rattle.psi_spec.specs.Meeting.{Placed}
+use Rattle.psi_spec.specs.Placement.{Slot}
+use Rattle.psi_spec.specs.Streams.{blocks_for}
+use Rattle.psi_spec.specs.TagLists.{IsTagList}
+use Rattle.psi_spec.proofs.Padding.{is_hit_by_padded_tags}
+use Rattle.psi_spec.proofs.StreamSizes.{length-joined}
+use Rattle.psi_spec.proofs.StreamSteps.{tags_of-concat}
+use Rattle.psi_receiver.specs.Marking.{padded_tags, tags_in}
+use Rattle.psi_receiver.specs.Own.{AreMarked, AreShownBy, IsShownBy, Marked, own_tag_of, tags_for}
+use Rattle.psi_receiver.specs.Receiving.{finder, hits_of}
+use Rattle.psi_receiver.proofs.Awaited.{all-drop, all-take, block_list, lists_list}
+
+-- ---- the tags of a list, over its frames
+
+-- the padded tags of a block are its tags, padded
+padded_block : (g : ℕ) (tags : List (List ℕ)) → 1 ≤ g → AllByRecursion (λ tag. length tag ≡ g) tags
+    → padded_tags g (concat tags) ≡ map (padded g) tags
+padded_block g tags some all =
+    let exact : length tags * g ≡ length tags * g + 0 = omega arith in
+    let many : tags_in g (concat tags) ≡ length tags =
+    ap (λ (n : ℕ). n / g) (length-joined g tags all ∙ exact) ∙ div-mul-add (length tags) g 0 (omega arith) in
+    ap (λ (n : ℕ). map (padded g) (tags_of n g (concat tags))) many ∙ ap (map (padded g)) (tags_of-concat g tags all)
+
+-- the blocks of a list have its tags
+tags_of_blocks : (g l list block left : ℕ) (tags : List (List ℕ)) (frames : List Frame) → 1 ≤ g → list ≡ l → length tags ≤ 1024 * left
+    → AllByRecursion (λ tag. length tag ≡ g) tags
+    → tags_for g l (block_list list block left tags ++ frames) ≡ map (padded g) tags ++ tags_for g l frames
+tags_of_blocks g l list block zero [] frames some same few all = refl
+tags_of_blocks g l list block zero (tag ∷ tags) frames some same few all = absurd (omega arith)
+tags_of_blocks g l list block (suc left) tags frames some same few all =
+    let front : List (List ℕ) = take 1024 tags in
+    let back : List (List ℕ) = drop 1024 tags in
+    let later : List Frame = block_list list (block + 1) left back ++ frames in
+    let rest : List (List ℕ) = tags_for g l frames in
+    ap (λ (b : Bool). cond b (padded_tags g (concat front)) [] ++ tags_for g l later) (eq-eqb list l same)
+    ∙ ap₂ (λ (a b : List (List ℕ)). a ++ b)
+    (padded_block g front some (all-take (λ tag. length tag ≡ g) 1024 tags all))
+    (tags_of_blocks g l list (block + 1) left back frames some same (omega (arith, length-drop 1024 tags))
+    (all-drop (λ tag. length tag ≡ g) 1024 tags all))
+    ∙ sym (append_assoc (map (padded g) front) (map (padded g) back) rest)
+    ∙ ap (λ (ts : List (List ℕ)). ts ++ rest)
+    (sym (map-append (padded g) front back) ∙ ap (map (padded g)) (take-append-drop 1024 tags))
+
+-- the blocks of another list have none of them
+tags_of_others : (g l list block left : ℕ) (tags : List (List ℕ)) (frames : List Frame) → (list ≡ l → ⊥)
+    → tags_for g l (block_list list block left tags ++ frames) ≡ tags_for g l frames
+tags_of_others g l list block zero tags frames other = refl
+tags_of_others g l list block (suc left) tags frames other =
+    ap (λ (b : Bool). cond b (padded_tags g (concat (take 1024 tags))) [] ++ tags_for g l (block_list list (block + 1) left (drop 1024 tags) ++ frames)) (ne_eqb list l other)
+    ∙ tags_of_others g l list (block + 1) left (drop 1024 tags) frames other
+
+-- lists from a number on have no tags of a list before it
+tags_of_later : (g l list : ℕ) (lists : List (List (List ℕ))) → l < list → tags_for g l (lists_list list lists) ≡ []
+tags_of_later g l list [] low = refl
+tags_of_later g l list (tags ∷ lists) low =
+    tags_of_others g l list 0 (blocks_for (length tags)) tags (lists_list (list + 1) lists) (λ e. omega arith)
+    ∙ tags_of_later g l (list + 1) lists (omega arith)
+
+-- the frames of lists have the tags of each, padded
+tags_of_lists : (g l list k count : ℕ) (lists : List (List (List ℕ))) → 1 ≤ g → list + k ≡ l
+    → AllByRecursion (IsTagList g count) lists → tags_for g l (lists_list list lists) ≡ map (padded g) (get_or lists k [])
+tags_of_lists g l list k count [] some at each = refl
+tags_of_lists g l list zero count (tags ∷ lists) some at each =
+    let is : IsTagList g count tags = each.0 in
+    tags_of_blocks g l list 0 (blocks_for (length tags)) tags (lists_list (list + 1) lists) some (omega arith) (omega arith)
+    (recursion_from_All (λ tag. length tag ≡ g) tags is.lengths)
+    ∙ ap (λ (ts : List (List ℕ)). map (padded g) tags ++ ts) (tags_of_later g l (list + 1) lists (omega arith))
+    ∙ append-nil (map (padded g) tags)
+tags_of_lists g l list (suc k) count (tags ∷ lists) some at each =
+    tags_of_others g l list 0 (blocks_for (length tags)) tags (lists_list (list + 1) lists) (λ e. omega arith)
+    ∙ tags_of_lists g l (list + 1) k count lists some (omega arith) each.1
+
+-- ---- what is shown
+
+pub some_width : (deal : ReceiverDeal) → IsReceiverDeal deal → 1 ≤ deal.tag_length
+some_width deal is = let fits = is.tag_length in grind (arith, nat_tests)
+
+-- the items that are shown by the marks of a stream's frames are those that are hit in its lists
+pub shown_are_hits : (deal : ReceiverDeal) (placed : List Placed) (count : ℕ) (lists : List (List (List ℕ))) (marks : List Marked) (shown : List Bool)
+    → IsReceiverDeal deal
+    → ((i : ℕ) (slot : Slot) → slice_get (map (λ p. p.slot) placed) i ≡ Some slot
+    → list_of_slot (bins_for (length placed)) slot < 3 + deal.stash)
+    → All (IsTagList deal.tag_length count) lists
+    → AreMarked deal.tag_length (sender_hello deal.id deal.session count ∷ lists_list 0 lists) marks
+    → length marks ≡ 3 + deal.stash → AreShownBy deal (map (λ p. p.slot) placed) marks shown → length shown ≡ length placed
+    → shown ≡ hits_of deal placed lists
+unfolding hits_of
+shown_are_hits deal placed count lists marks shown is within each marked many by_marks size =
+    ext_get_or false shown (map hit placed) (size ∙ sym (length-map placed hit)) at
+  where
+    hit : Placed → Bool
+    hit = is_hit (finder deal placed) lists
+
+    at : (i : ℕ) → i < length shown → get_or shown i false ≡ get_or (map hit placed) i false
+    at i l =
+        let nothing : Placed = record { item = []; slot = record { row = 0; index = 0 } } in
+        let g : ℕ = deal.tag_length in
+        let inside : i < length placed = omega (arith, size) in
+        let slots : List Slot = map (λ p. p.slot) placed in
+        let long : length slots ≡ length placed = length-map placed (λ p. p.slot) in
+        let p : Placed = get_or placed i nothing in
+        let slot_at : slice_get slots i ≡ Some p.slot =
+        slice_get-map (λ p. p.slot) placed i ∙ ap (option_map (λ p. p.slot)) (slice_get-get_or placed i nothing inside) in
+        let list : ℕ = list_of_slot (bins_for (length placed)) p.slot in
+        let low : list < 3 + deal.stash = within i p.slot slot_at in
+        let m : Marked = get_or marks list (record { tags = []; hits = [] }) in
+        let m_at : slice_get marks list ≡ Some m = slice_get-get_or marks list (record { tags = []; hits = [] }) (omega (arith, low, many)) in
+        let own : List ℕ = own_tag_of deal (rows_for deal.stash (length placed)) p.slot in
+        let by : IsShownBy m own (get_or shown i false) =
+        subst (λ (n : ℕ). IsShownBy m (own_tag_of deal (rows_for deal.stash n) p.slot) (get_or shown i false)) long
+        (by_marks i p.slot m slot_at (ap (λ (n : ℕ). slice_get marks (list_of_slot (bins_for n) p.slot)) long ∙ m_at)) in
+        by.as_marked
+        ∙ marked list m m_at by.place by.within
+        ∙ ap₂ (λ (ts : List (List ℕ)) (x : List ℕ). list_any (bytes_eq x) ts)
+        (tags_of_lists g list 0 list count lists (some_width deal is) (omega arith) (recursion_from_All (IsTagList g count) lists each)) by.same
+        ∙ sym (is_hit_by_padded_tags (finder deal placed) lists p)
+        ∙ sym (get_or-map hit placed i nothing false inside)

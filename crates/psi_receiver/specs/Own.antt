@@ -1,0 +1,126 @@
+-- The receiver's own tags, list by list, and which of them came.
+use Rattle.std.specs.Prelude.{◌≡◌, ◌+◌, ◌==◌, ◌<◌, ◌≤◌, ℕ, Bool, true, false, List, [], ◌∷◌, ◌++◌, length, map, filter, slice_get, slice_index_or, Some, if◌then◌else◌}
+use Rattle.std.specs.Prelude.{Contains, IsSorted}
+use Rattle.std.specs.Cmp.Lexicographic.{slice_cmp}
+use Rattle.std.specs.Ordering.{nat_cmp}
+use Rattle.psi_spec.specs.Limits.{bins_for, rows_for}
+use Rattle.psi_spec.specs.Columns.{row_of}
+use Rattle.psi_spec.specs.Deals.{ReceiverDeal, zero_columns}
+use Rattle.psi_spec.specs.Formulas.{padded_tag}
+use Rattle.psi_spec.specs.Frames.{Frame, tags_frame, is_below}
+use Rattle.psi_spec.specs.Hits.{list_of_slot}
+use Rattle.psi_spec.specs.Placement.{Slot}
+use Rattle.psi_spec.specs.Rising.{rising}
+use Rattle.psi_receiver.specs.Marking.{is_among, padded_tags}
+use Rattle.psi_receiver.specs.declared.own.OwnList.{OwnList}
+use Rattle.psi_receiver.specs.declared.own.OwnTags.{OwnTags}
+
+-- ---- own tags
+
+-- the own tag of a slot, padded: of its row and the word of the zero columns there
+abbrev pub own_tag_of : ReceiverDeal → ℕ → Slot → List ℕ
+own_tag_of deal rows slot =
+    padded_tag deal.key deal.tag_length slot.row (row_of (zero_columns deal rows) slot.row)
+
+-- the own tags of slots, in order
+abbrev pub own_tags : ReceiverDeal → List Slot → List (List ℕ)
+own_tags deal slots = map (own_tag_of deal (rows_for deal.stash (length slots))) slots
+
+-- the slots whose tags are looked up in a list, in order
+abbrev pub slots_in : ℕ → List Slot → List Slot
+slots_in list slots = filter (λ slot. list_of_slot (bins_for (length slots)) slot == list) slots
+
+-- the own tags that are looked up in a list, in rising order
+abbrev pub own_tags_in : ReceiverDeal → List Slot → ℕ → List (List ℕ)
+own_tags_in deal slots list =
+    rising (map (own_tag_of deal (rows_for deal.stash (length slots))) (slots_in list slots))
+
+-- ---- marks
+
+-- the own tags of a list, and of each whether it came
+pub record Marked : Type 0 where
+  pub tags : List (List ℕ)
+  pub hits : List Bool
+
+abbrev pub marked_of : OwnList → Marked
+marked_of list = record { tags = list.tags.items; hits = list.hits.items }
+
+abbrev pub marks_of : OwnTags → List Marked
+marks_of own = map marked_of own.lists.items
+
+-- the own tags of a list, with a mark for each
+pub record IsMarkedList (tags : List (List ℕ)) (m : Marked) : Type 0 where
+  pub tags_are : m.tags ≡ tags
+  pub long : length m.hits ≡ length m.tags
+
+-- the own tags of slots, by item and in each list
+pub record AreOwnTags (deal : ReceiverDeal) (slots : List Slot) (own : OwnTags) : Type 0 where
+  pub by_item : own.by_item.items ≡ own_tags deal slots
+  pub many : length own.lists.items ≡ 3 + deal.stash
+  pub each : (list : ℕ) (m : Marked) → slice_get (marks_of own) list ≡ Some m
+      → IsMarkedList (own_tags_in deal slots list) m
+
+-- no tag is marked
+abbrev pub AreUnmarked : List Marked → Type 0
+AreUnmarked lists =
+    (list : ℕ) (m : Marked) → slice_get lists list ≡ Some m → (i : ℕ) → slice_index_or m.hits i false ≡ false
+
+-- own tags are marked exactly where they are among these tags
+abbrev pub IsMarkedBy : List (List ℕ) → Marked → Type 0
+IsMarkedBy tags m =
+    (i : ℕ) → i < length m.tags → slice_index_or m.hits i false ≡ is_among tags (slice_index_or m.tags i [])
+
+-- the tags that frames have of a list, each padded
+abbrev pub tags_for : ℕ → ℕ → List Frame → List (List ℕ)
+tags_for width list [] = []
+tags_for width list (tags_frame of_list block bytes ∷ frames) =
+    (if of_list == list then padded_tags width bytes else []) ++ tags_for width list frames
+tags_for width list (frame ∷ frames) = tags_for width list frames
+
+-- the own tags of each list are marked by the tags that frames have of it
+abbrev pub AreMarked : ℕ → List Frame → List Marked → Type 0
+AreMarked width frames lists =
+    (list : ℕ) (m : Marked) → slice_get lists list ≡ Some m → IsMarkedBy (tags_for width list frames) m
+
+-- a merge stands at a place of own tags, where the tags that came end with the floor: those before the place are not
+-- above it, and are marked where they equal it
+pub record IsMerging (floor : List ℕ) (from : ℕ) (m : Marked) : Type 0 where
+  pub within : from ≤ length m.tags
+  pub passed : (i : ℕ) → i < from → is_below floor (slice_index_or m.tags i []) ≡ false
+  pub found : (i : ℕ) → i < from → slice_index_or m.tags i [] ≡ floor → slice_index_or m.hits i false ≡ true
+
+-- ---- what is shown
+
+-- an own tag has a place in its list, and is shown where it is marked there
+pub record IsShownBy (m : Marked) (tag : List ℕ) (shown : Bool) : Type 0 where
+  pub place : ℕ
+  pub within : place < length m.tags
+  pub same : slice_index_or m.tags place [] ≡ tag
+  pub as_marked : shown ≡ slice_index_or m.hits place false
+
+-- a tag is one of the tags of the list with this number, which rise and have a mark each
+pub record IsFindable (tag : List ℕ) (lists : List Marked) (list : ℕ) : Type 0 where
+  pub within : list < length lists
+  pub rises : (m : Marked) → slice_get lists list ≡ Some m → IsSorted (slice_cmp nat_cmp) m.tags
+  pub long : (m : Marked) → slice_get lists list ≡ Some m → length m.hits ≡ length m.tags
+  pub there : (m : Marked) → slice_get lists list ≡ Some m → Contains m.tags tag
+
+-- the tag of each item is one of those of its slot's list
+pub record AreFindable (bins : ℕ) (slots : List Slot) (tags : List (List ℕ)) (lists : List Marked) : Type 0 where
+  pub many : length tags ≡ length slots
+  pub each : (i : ℕ) (slot : Slot) → slice_get slots i ≡ Some slot
+      → IsFindable (slice_index_or tags i []) lists (list_of_slot bins slot)
+
+-- each item is shown by the marks of its slot's list
+abbrev pub AreFound : ℕ → List Slot → List (List ℕ) → List Marked → List Bool → Type 0
+AreFound bins slots tags lists shown =
+    (i : ℕ) (slot : Slot) (m : Marked) → slice_get slots i ≡ Some slot
+    → slice_get lists (list_of_slot bins slot) ≡ Some m
+    → IsShownBy m (slice_index_or tags i []) (slice_index_or shown i false)
+
+-- the slot of each item has a list, by the marks of which the item is shown
+abbrev pub AreShownBy : ReceiverDeal → List Slot → List Marked → List Bool → Type 0
+AreShownBy deal slots lists shown =
+    (i : ℕ) (slot : Slot) (m : Marked) → slice_get slots i ≡ Some slot
+    → slice_get lists (list_of_slot (bins_for (length slots)) slot) ≡ Some m
+    → IsShownBy m (own_tag_of deal (rows_for deal.stash (length slots)) slot) (slice_index_or shown i false)

@@ -1,0 +1,80 @@
+// What a session is made of.
+ghost use Rattle.std.specs.Prelude.{◌≡◌, ◌<◌, ℕ, [], IfOk, length, map, slice_index_or};
+ghost use Rattle.psi_spec.specs.Columns.{row_of};
+ghost use Rattle.psi_spec.specs.ColumnSets.{masked_columns};
+ghost use Rattle.psi_spec.specs.Deals.{zero_columns};
+ghost use Rattle.psi_spec.specs.Formulas.{item_digest};
+ghost use Rattle.psi_spec.specs.Limits.{bins_for, rows_for};
+ghost use Rattle.psi_spec.specs.Matrices.{IsCleanMatrix};
+ghost use Rattle.psi_spec.specs.Meeting.{placed_of};
+ghost use Rattle.psi_spec.specs.Placement.{IsPlacementOf};
+ghost use Rattle.psi_spec.specs.Sessions.{dealt_masked};
+ghost use Rattle.psi_spec.specs.Streams.{dealt_sets};
+ghost use Rattle.psi_receiver.specs.Own.{AreOwnTags, AreUnmarked, marks_of};
+
+use crate::own::{OwnTags, own_tags};
+use crate::rows::row_words;
+use psi_base::{NoMemory, rows};
+use psi_bits::{Columns, Rows, flip_plain};
+use psi_cuckoo::Placement;
+use psi_deal::ReceiverDeal;
+use psi_items::Items;
+use psi_oprf::mask;
+use std::alloc::Global;
+
+/// What a session is made of.
+#[derive(Drop)]
+pub(crate) struct Prepared {
+    /// The masked columns, which are sent.
+    pub(crate) sent: Columns,
+    /// The own tags of the items.
+    pub(crate) own: OwnTags,
+}
+
+// The rows of the zero columns, and the masked columns that hide these words.
+fn masked(alloc: Global, deal: &ReceiverDeal, words: Rows) -> Result<(Rows, Columns), NoMemory>
+    ensures count { IfOk result (λ made. length made.0 ≡ length words) }
+    ensures own { IfOk result (λ made. (row : ℕ) → row < length words →
+        slice_index_or made.0 row [] ≡ row_of (zero_columns deal.now (length words)) row) }
+    ensures sent { IfOk result (λ made. made.1 ≡ record {
+      rows = length words;
+      columns = masked_columns words (dealt_sets deal.now (length words));
+    }) }
+    ensures clean { IfOk result (λ made. IsCleanMatrix made.1) }
+{
+    let mut zeros = Columns::zero(alloc, words.rows())?;
+    let mut ones = Columns::zero(alloc, words.rows())?;
+    let mut sent = Columns::zero(alloc, words.rows())?;
+    deal.columns(&mut zeros, &mut ones);
+    mask(&zeros, &ones, &words, &mut sent);
+    // The words are hidden now, and their room is free for the rows of the zero columns.
+    let mut own = words;
+    flip_plain(&zeros, &mut own);
+    Ok((own, sent))
+}
+
+/// Makes all that a session is made of, for items with these digests and slots. It is refused only where memory is
+/// wanting, and takes four matrices at most, of which it leaves one.
+pub(crate) fn prepare(
+    alloc: Global,
+    items: &Items,
+    digests: &[[u8; 32]],
+    deal: &ReceiverDeal,
+    placement: &Placement,
+) -> Result<Prepared, NoMemory>
+    requires digests { digests.now ≡ map item_digest items.now }
+    requires placed { IsPlacementOf deal.now.stash deal.now.key (bins_for (length items.now)) items.now placement.now }
+    ensures sent { IfOk result (λ made. made.sent ≡ record {
+      rows = rows_for deal.now.stash (length items.now);
+      columns = dealt_masked deal.now (placed_of items.now placement.now);
+    }) }
+    ensures clean { IfOk result (λ made. IsCleanMatrix made.sent) }
+    ensures own { IfOk result (λ made. AreOwnTags deal.now placement.now made.own) }
+    ensures unmarked { IfOk result (λ made. AreUnmarked (marks_of made.own)) }
+{
+    let mut words = Rows::with_rows(alloc, rows(items.len(), deal.stash()))?;
+    row_words(items, digests, deal.key(), placement, &mut words);
+    let (own_rows, sent) = masked(alloc, deal, words)?;
+    let own = own_tags(alloc, deal, placement, &own_rows)?;
+    Ok(Prepared { sent, own })
+}
