@@ -11,15 +11,21 @@ use Rattle.psi_base.specs.declared.faults.ReadFault.TheVariants as read
 use Rattle.psi_frames.specs.declared.turns.EndFault.{EndFault}
 use Rattle.psi_frames.specs.declared.turns.EndFault.TheVariants as peer
 use Rattle.psi_frames.specs.Dialogue.{Dialogue, Talks, talked}
-use Rattle.psi_top.specs.Promises.{IsAnswered, IsHungry, IsNotPlaced, IsNotTalked, IsOfEnd, IsSilent, IsUnread}
+use Rattle.psi_top.specs.Promises.{IsAnswered, IsHungry, IsNotTalked, IsOfEnd, IsSilent, IsUnread}
 use Rattle.psi_top.specs.Tree.{Effect, says, puts, Placing, Tree, reads, refuses, places, opens, talks, ends, End, stopped}
-use Rattle.psi_top.specs.Walk.{AtCall, AtPlace, AtRefusal, AtEnd, starved, cut, passed, hungry, crowded, placed, given_up, refused, gave_up, all_done, IsVerdict, Does, Follows, Gives, read_status, write_status, print_status, open_status, talk_status}
+use Rattle.psi_top.specs.Walk.{AtCall, AtPlace, AtRefusal, AtEnd, IsNotPlaced, starved, cut, passed, hungry, crowded, placed, given_up, refused, gave_up, all_done, IsVerdict, Does, Follows, Gives, read_status, write_status, print_status, open_status, talk_status}
 use Rattle.psi_top.specs.declared.status.Status.{Status}
 use Rattle.psi_top.specs.declared.status.Status.TheVariants as status
+use Rattle.psi_top.proofs.Placed.{does_placed}
 
 -- a run that ended so, of which a fact holds
 ended_so : (P : Status → Outside → Type 0) (end : End) (why : Status) (after : Outside) → end ≡ stopped why after → P why after → P end.status end.left
 ended_so P end why after e h = subst (λ (d : End). P d.status d.left) (sym e) h
+
+-- the same with no placement
+stopped_so : (P : List (List Slot) → Status → Outside → Type 0) (end : End) (why : Status) (after : Outside) → end ≡ stopped why after → P [] why after
+    → P end.placed end.status end.left
+stopped_so P end why after e h = subst (λ (d : End). P d.placed d.status d.left) (sym e) h
 
 -- ---- what leaves the link alone
 
@@ -123,12 +129,12 @@ does_answer words taken wire (puts word bytes ∷ rest) before end h =
 -- ---- the walk
 
 call_answer : {A E : Type 0} (taken : Bool) (Calls : Result A E → Outside → Type 0) (status_of : E → Status) (before : Outside) (end : End)
-    (Rest : A → Outside → Type 0) (P : Status → Outside → Type 0) → P status.NoMemory before
-    → ((why : E) (after : Outside) → Calls (Err why) after → P (status_of why) after)
-    → ((x : A) (after : Outside) → Calls (Ok x) after → Rest x after → P end.status end.left)
-    → AtCall taken Calls status_of before end Rest → P end.status end.left
-call_answer taken Calls status_of before end Rest P none err ok (starved t e) = ended_so P end status.NoMemory before e none
-call_answer taken Calls status_of before end Rest P none err ok (cut why after h e) = ended_so P end (status_of why) after e (err why after h)
+    (Rest : A → Outside → Type 0) (P : List (List Slot) → Status → Outside → Type 0) → P [] status.NoMemory before
+    → ((why : E) (after : Outside) → Calls (Err why) after → P [] (status_of why) after)
+    → ((x : A) (after : Outside) → Calls (Ok x) after → Rest x after → P end.placed end.status end.left)
+    → AtCall taken Calls status_of before end Rest → P end.placed end.status end.left
+call_answer taken Calls status_of before end Rest P none err ok (starved t e) = stopped_so P end status.NoMemory before e none
+call_answer taken Calls status_of before end Rest P none err ok (cut why after h e) = stopped_so P end (status_of why) after e (err why after h)
 call_answer taken Calls status_of before end Rest P none err ok (passed x after h more) = ok x after h more
 
 unread : (known : Known) (name : List ℕ) (word limit : ℕ) (before : Outside) (why : ReadFault) (after : Outside)
@@ -149,28 +155,29 @@ untalked known d before peer.Link after h = h
 untalked known d before peer.NoMemory after h = inr h
 
 refusal_answers : (taken : Bool) (verdict : Status) (before : Outside) (end : End) → AtRefusal taken verdict before end
-    → ((end.status ≡ status.NoMemory) ⊎ ((end.status ≡ verdict) × IsVerdict verdict)) × IsSilent before end.left
+    → ((end.status ≡ status.NoMemory) ⊎ ((end.status ≡ verdict) × IsVerdict verdict)) × IsSilent before end.left × (end.placed ≡ [])
 refusal_answers taken verdict before end (given_up t e) =
-    (inl (ap (λ (d : End). d.status) e), silent_as before end.left before (ap (λ (d : End). d.left) e) (silent before))
+    (inl (ap (λ (d : End). d.status) e), silent_as before end.left before (ap (λ (d : End). d.left) e) (silent before), ap (λ (d : End). d.placed) e)
 refusal_answers taken verdict before end (refused v e) =
-    (inr (ap (λ (d : End). d.status) e, v), silent_as before end.left before (ap (λ (d : End). d.left) e) (silent before))
+    (inr (ap (λ (d : End). d.status) e, v), silent_as before end.left before (ap (λ (d : End). d.left) e) (silent before), ap (λ (d : End). d.placed) e)
 
-place_answers : (taken : Bool) (word : ℕ) (set : Placing) (before : Outside) (end : End) (Rest : List Slot → End → Type 0) (P : Status → Outside → Type 0)
-    → ((why : Status) → IsNotPlaced word set why → P why before)
-    → ((slots : List Slot) (later : End) → IsPlacement set.stash set.bins set.candidates slots → Rest slots later → P later.status later.left)
-    → AtPlace taken word set before end Rest → P end.status end.left
-place_answers taken word set before end Rest P not rest (hungry t e) = ended_so P end status.NoMemory before e (not status.NoMemory tt)
-place_answers taken word set before end Rest P not rest (crowded items h e) = ended_so P end _ before e (not _ (refl, h, refl))
+place_answers : (taken : Bool) (word : ℕ) (set : Placing) (before : Outside) (end : End) (Rest : List Slot → End → Type 0)
+    (P : List (List Slot) → Status → Outside → Type 0)
+    → ((why : Status) → IsNotPlaced word set why → P [] why before)
+    → ((slots : List Slot) (later : End) → IsPlacement set.stash set.bins set.candidates slots → Rest slots later → P (slots ∷ later.placed) later.status later.left)
+    → AtPlace taken word set before end Rest → P end.placed end.status end.left
+place_answers taken word set before end Rest P not rest (hungry t e) = stopped_so P end status.NoMemory before e (not status.NoMemory tt)
+place_answers taken word set before end Rest P not rest (crowded items h e) = stopped_so P end _ before e (not _ (refl, h, refl))
 place_answers taken word set before end Rest P not rest (placed slots later h e more) =
-    subst (λ (d : End). P d.status d.left) (sym e) (rest slots later h more)
+    subst (λ (d : End). P d.placed d.status d.left) (sym e) (rest slots later h more)
 
 pub follows_answers : (known : Known) (words : List (List ℕ)) (taken : Bool) (tree : Tree) (before : Outside) (end : End)
-    → Follows known words taken tree before end → IsAnswered known words taken tree before end.status end.left
+    → Follows known words taken tree before end → IsAnswered known words taken tree before end.placed end.status end.left
 unfolding Follows
 follows_answers known words taken (reads word limit next) before end h =
     call_answer taken (Gives known before (word_at words word) limit) (read_status word) before end (λ bytes after. Follows known words taken (next bytes) after end)
-    (IsAnswered known words taken (reads word limit next) before) (inl (tt, silent before))
-    (λ why after was. inl (unread known (word_at words word) word limit before why after was, read_silent known (word_at words word) limit before why after was))
+    (IsAnswered known words taken (reads word limit next) before) (inl (tt, silent before, refl))
+    (λ why after was. inl (unread known (word_at words word) word limit before why after was, read_silent known (word_at words word) limit before why after was, refl))
     (λ bytes after was more. inr (
       bytes,
       record { file = was.1.1; given = was.1.2; are_bytes = was.0; short = was.1.0 },
@@ -179,19 +186,21 @@ follows_answers known words taken (reads word limit next) before end h =
 follows_answers known words taken (refuses verdict) before end h = refusal_answers taken verdict before end h
 follows_answers known words taken (places word set next) before end h =
     place_answers taken word set before end (λ slots later. Follows known words taken (next slots) before later)
-    (IsAnswered known words taken (places word set next) before) (λ why not. inl (not, silent before))
-    (λ slots later is more. inr (slots, is, follows_answers known words taken (next slots) before later more)) h
+    (IsAnswered known words taken (places word set next) before) (λ why not. (not, silent before))
+    (λ slots later is more. (is, follows_answers known words taken (next slots) before later more)) h
 follows_answers known words taken (opens next) before end h =
     call_answer taken (Opens before) open_status before end (λ _ after. Follows known words taken next after end)
-    (IsAnswered known words taken (opens next) before) (inl (inr refl, silent before)) (λ why after was. inl (unopened why, open_silent before why after was))
+    (IsAnswered known words taken (opens next) before) (inl (inr refl, silent before, refl)) (λ why after was. inl (unopened why, open_silent before why after was, refl))
     (λ x after was more. inr (follows_answers known words taken next (record before { ready = true }) end (subst (λ (o : Outside). Follows known words taken next o end) was more))) h
 follows_answers known words taken (talks d next) before end h =
     call_answer taken (Talks known d before) talk_status before end (λ bytes after. Follows known words true (next bytes) after end)
-    (IsAnswered known words taken (talks d next) before) (inl (inl refl)) (λ why after was. inl (untalked known d before why after was))
+    (IsAnswered known words taken (talks d next) before) (inl (inl refl, refl)) (λ why after was. inl (untalked known d before why after was, refl))
     (λ bytes after was more. inr (
       bytes,
       was.0,
       was.1,
       follows_answers known words true (next bytes) (talked before (d.owes bytes) bytes) end (subst (λ (o : Outside). Follows known words true (next bytes) o end) was.2 more),
     )) h
-follows_answers known words taken (ends wire effects) before end h = does_answer words taken wire effects before end h
+follows_answers known words taken (ends wire effects) before end h =
+    let does = does_answer words taken wire effects before end h in
+    (does.0, does.1, does.2, does_placed words taken wire effects before end h)

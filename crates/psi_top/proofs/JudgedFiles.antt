@@ -1,16 +1,17 @@
 -- What a run that read and judged a file answers and leaves.
-use Rattle.std.proofs.Common.{◌≡◌, inl, inr, ℕ, false, List, Option, Some, None, Ok, Err, refl}
+use Rattle.std.proofs.Common.{◌≡◌, inl, inr, ℕ, false, List, [], Option, Some, None, Ok, Err, refl}
 use Rattle.std.specs.declared.result.Result.{Result}
-use Rattle.psi_spec.specs.DealFiles.{sender_of, sender_size}
-use Rattle.psi_spec.specs.Deals.{SenderDeal}
+use Rattle.psi_spec.specs.DealFiles.{receiver_of, receiver_size, sender_of, sender_size}
+use Rattle.psi_spec.specs.Deals.{ReceiverDeal, SenderDeal}
 use Rattle.psi_spec.specs.Items.{BadLine, first_bad, items_of}
 use Rattle.psi_spec.specs.Limits.{file_limit}
+use Rattle.psi_spec.specs.Placement.{Slot}
 use Rattle.psi_base.specs.Outside.{Known, Outside}
 use Rattle.psi_deal.specs.BadDeals.{bad_deal}
 use Rattle.psi_deal.specs.declared.errors.BadDeal.{BadDeal as DealFault}
 use Rattle.psi_items.specs.Reading.{bad_items_of}
-use Rattle.psi_top.specs.Files.{items_in, judged_items, judged_sender, reads_items, reads_sender, sender_in}
-use Rattle.psi_top.specs.JudgedFiles.{HasBadLine, HasBadSenderDeal, HasItems, HasSenderDeal}
+use Rattle.psi_top.specs.Files.{items_in, judged_items, judged_receiver, judged_sender, reads_items, reads_receiver, reads_sender, receiver_in, sender_in}
+use Rattle.psi_top.specs.JudgedFiles.{HasBadLine, HasBadReceiverDeal, HasBadSenderDeal, HasItems, HasReceiverDeal, HasSenderDeal}
 use Rattle.psi_top.specs.Promises.{IsAnswered, IsSilent, IsUnread, Leaves, WasRead}
 use Rattle.psi_top.specs.Tree.{Tree, reads, decides, End}
 use Rattle.psi_top.specs.declared.status.Status.{Status}
@@ -26,26 +27,26 @@ left_decides known words (Err why) next before end h = absurd h
 
 -- a run at a file that is read and judged: it was not read, memory was wanting, it was refused, or the run went on with what it holds
 pub data AtFile {A : Type 0} (known : Known) (words : List (List ℕ)) (before : Outside) (word : ℕ) (judge : List ℕ → Result A Status)
-    (why : Status) (after : Outside) (Rest : A → Type 0) : Type 0 where
-  unread : IsUnread word file_limit why → IsSilent before after → AtFile known words before word judge why after Rest
-  wanting : why ≡ status.NoMemory → IsSilent before after → AtFile known words before word judge why after Rest
-  refused : (bytes : List ℕ) → WasRead known words before word file_limit bytes → judge bytes ≡ Err why → IsSilent before after
-      → AtFile known words before word judge why after Rest
+    (slots : List (List Slot)) (why : Status) (after : Outside) (Rest : A → Type 0) : Type 0 where
+  unread : IsUnread word file_limit why → IsSilent before after → slots ≡ [] → AtFile known words before word judge slots why after Rest
+  wanting : why ≡ status.NoMemory → IsSilent before after → slots ≡ [] → AtFile known words before word judge slots why after Rest
+  refused : (bytes : List ℕ) → WasRead known words before word file_limit bytes → judge bytes ≡ Err why → IsSilent before after → slots ≡ []
+      → AtFile known words before word judge slots why after Rest
   taken_on : (bytes : List ℕ) (x : A) → WasRead known words before word file_limit bytes → judge bytes ≡ Ok x → Rest x
-      → AtFile known words before word judge why after Rest
+      → AtFile known words before word judge slots why after Rest
 
 pub answered_file : {A : Type 0} (known : Known) (words : List (List ℕ)) (word : ℕ) (judge : List ℕ → Result A Status) (next : A → Tree) (before : Outside)
-    (why : Status) (after : Outside) → IsAnswered known words false (reads word file_limit (λ bytes. decides (judge bytes) next)) before why after
-    → AtFile known words before word judge why after (λ x. IsAnswered known words false (next x) before why after)
+    (slots : List (List Slot)) (why : Status) (after : Outside) → IsAnswered known words false (reads word file_limit (λ bytes. decides (judge bytes) next)) before slots why after
+    → AtFile known words before word judge slots why after (λ x. IsAnswered known words false (next x) before slots why after)
 unfolding decides
-answered_file known words word judge next before why after (inl h) = unread h.0 h.1
-answered_file known words word judge next before why after (inr h) = by_judge (judge h.0) refl h.2
+answered_file known words word judge next before slots why after (inl h) = unread h.0 h.1 h.2
+answered_file known words word judge next before slots why after (inr h) = by_judge (judge h.0) refl h.2
   where
-    by_judge : (r : Result _ Status) → judge h.0 ≡ r → IsAnswered known words false (decides r next) before why after
-        → AtFile known words before word judge why after (λ x. IsAnswered known words false (next x) before why after)
+    by_judge : (r : Result _ Status) → judge h.0 ≡ r → IsAnswered known words false (decides r next) before slots why after
+        → AtFile known words before word judge slots why after (λ x. IsAnswered known words false (next x) before slots why after)
     by_judge (Ok x) e a = taken_on h.0 x h.1 e a
-    by_judge (Err verdict) e (inl s, quiet) = wanting s quiet
-    by_judge (Err verdict) e (inr s, quiet) = refused h.0 h.1 (rw s.0 e) quiet
+    by_judge (Err verdict) e (inl s, quiet, none) = wanting s quiet none
+    by_judge (Err verdict) e (inr s, quiet, none) = refused h.0 h.1 (rw s.0 e) quiet none
 
 -- ---- item files
 
@@ -86,11 +87,11 @@ left_items known words word next before end h =
     let read = left_decides known words (items_in word h.0) next before end h.2 in
     (read.0, has_items known words before word h.0 read.0 h.1 read.1, read.2)
 
-pub answered_items : (known : Known) (words : List (List ℕ)) (word : ℕ) (next : List (List ℕ) → Tree) (before : Outside) (why : Status) (after : Outside)
-    → IsAnswered known words false (reads_items word next) before why after
-    → AtFile known words before word (items_in word) why after (λ items. IsAnswered known words false (next items) before why after)
+pub answered_items : (known : Known) (words : List (List ℕ)) (word : ℕ) (next : List (List ℕ) → Tree) (before : Outside)
+    (slots : List (List Slot)) (why : Status) (after : Outside) → IsAnswered known words false (reads_items word next) before slots why after
+    → AtFile known words before word (items_in word) slots why after (λ items. IsAnswered known words false (next items) before slots why after)
 unfolding reads_items
-answered_items known words word next before why after h = answered_file known words word (items_in word) next before why after h
+answered_items known words word next before slots why after h = answered_file known words word (items_in word) next before slots why after h
 
 -- ---- sender's deal files
 
@@ -131,8 +132,53 @@ left_sender known words word next before end h =
     let read = left_decides known words (sender_in word h.0) next before end h.2 in
     (read.0, has_sender known words before word h.0 read.0 h.1 read.1, read.2)
 
-pub answered_sender : (known : Known) (words : List (List ℕ)) (word : ℕ) (next : SenderDeal → Tree) (before : Outside) (why : Status) (after : Outside)
-    → IsAnswered known words false (reads_sender word next) before why after
-    → AtFile known words before word (sender_in word) why after (λ deal. IsAnswered known words false (next deal) before why after)
+pub answered_sender : (known : Known) (words : List (List ℕ)) (word : ℕ) (next : SenderDeal → Tree) (before : Outside)
+    (slots : List (List Slot)) (why : Status) (after : Outside) → IsAnswered known words false (reads_sender word next) before slots why after
+    → AtFile known words before word (sender_in word) slots why after (λ deal. IsAnswered known words false (next deal) before slots why after)
 unfolding reads_sender
-answered_sender known words word next before why after h = answered_file known words word (sender_in word) next before why after h
+answered_sender known words word next before slots why after h = answered_file known words word (sender_in word) next before slots why after h
+
+-- ---- receiver's deal files
+
+receiver_good : (word : ℕ) (bytes : List ℕ) (deal : ReceiverDeal) → receiver_in word bytes ≡ Ok deal → (bad_deal 0 receiver_size bytes ≡ None) × (deal ≡ receiver_of bytes)
+unfolding receiver_in
+receiver_good word bytes deal e = by_fault (bad_deal 0 receiver_size bytes) refl e
+  where
+    by_fault : (fault : Option DealFault) → bad_deal 0 receiver_size bytes ≡ fault → judged_receiver word bytes fault ≡ Ok deal
+        → (bad_deal 0 receiver_size bytes ≡ None) × (deal ≡ receiver_of bytes)
+    by_fault None f e = (f, let g : Ok (receiver_of bytes) ≡ Ok deal = e in cc g)
+    by_fault (Some fault) f e = cc e
+
+pub receiver_bad : (word : ℕ) (bytes : List ℕ) (why : Status) → receiver_in word bytes ≡ Err why
+    → (fault : DealFault) × (bad_deal 0 receiver_size bytes ≡ Some fault) × (why ≡ status.BadDeal word fault)
+unfolding receiver_in
+receiver_bad word bytes why e = by_fault (bad_deal 0 receiver_size bytes) refl e
+  where
+    by_fault : (fault : Option DealFault) → bad_deal 0 receiver_size bytes ≡ fault → judged_receiver word bytes fault ≡ Err why
+        → (fault : DealFault) × (bad_deal 0 receiver_size bytes ≡ Some fault) × (why ≡ status.BadDeal word fault)
+    by_fault None f e = cc e
+    by_fault (Some fault) f e = (fault, f, cc e)
+
+pub has_receiver : (known : Known) (words : List (List ℕ)) (before : Outside) (word : ℕ) (bytes : List ℕ) (deal : ReceiverDeal)
+    → WasRead known words before word file_limit bytes → receiver_in word bytes ≡ Ok deal → HasReceiverDeal known words before word deal
+has_receiver known words before word bytes deal read e =
+    let good = receiver_good word bytes deal e in
+    record { bytes = bytes; read = read; good = good.0; spelled = good.1 }
+
+pub has_bad_receiver : (known : Known) (words : List (List ℕ)) (before : Outside) (word : ℕ) (bytes : List ℕ) (fault : DealFault)
+    → WasRead known words before word file_limit bytes → bad_deal 0 receiver_size bytes ≡ Some fault → HasBadReceiverDeal known words before word fault
+has_bad_receiver known words before word bytes fault read e = record { bytes = bytes; read = read; bad = e }
+
+pub left_receiver : (known : Known) (words : List (List ℕ)) (word : ℕ) (next : ReceiverDeal → Tree) (before : Outside) (end : End)
+    → Leaves known words (reads_receiver word next) before end
+    → (deal : ReceiverDeal) × HasReceiverDeal known words before word deal × Leaves known words (next deal) before end
+unfolding reads_receiver
+left_receiver known words word next before end h =
+    let read = left_decides known words (receiver_in word h.0) next before end h.2 in
+    (read.0, has_receiver known words before word h.0 read.0 h.1 read.1, read.2)
+
+pub answered_receiver : (known : Known) (words : List (List ℕ)) (word : ℕ) (next : ReceiverDeal → Tree) (before : Outside)
+    (slots : List (List Slot)) (why : Status) (after : Outside) → IsAnswered known words false (reads_receiver word next) before slots why after
+    → AtFile known words before word (receiver_in word) slots why after (λ deal. IsAnswered known words false (next deal) before slots why after)
+unfolding reads_receiver
+answered_receiver known words word next before slots why after h = answered_file known words word (receiver_in word) next before slots why after h

@@ -53,23 +53,25 @@ answers_counted known words before end = by_words (bad_word words) (command_of w
     by_words None (Some command) h = follows_counted known words false (tree_of command words) before end h
 
 -- no step answers `BadWords`
-never_answered : (known : Known) (words : List (List ℕ)) (taken : Bool) (tree : Tree) (before : Outside) (at : ℕ) (after : Outside) → IsAnswered known words taken tree before (status.BadWords at) after → ⊥
-never_answered known words taken (reads word limit next) before at after (inl h) = h.0
-never_answered known words taken (reads word limit next) before at after (inr h) = never_answered known words taken (next h.0) before at after h.2
-never_answered known words taken (refuses why) before at after (inl e, quiet) = cc e
-never_answered known words taken (refuses why) before at after (inr h, quiet) = let f : IsVerdict (status.BadWords at) = subst IsVerdict (sym h.0) h.1 in f
-never_answered known words taken (places word set next) before at after (inl h) = h.0
-never_answered known words taken (places word set next) before at after (inr h) = never_answered known words taken (next h.0) before at after h.2
-never_answered known words taken (opens next) before at after (inl (inl e, quiet)) = cc e
-never_answered known words taken (opens next) before at after (inl (inr e, quiet)) = cc e
-never_answered known words taken (opens next) before at after (inr h) = never_answered known words taken next (record before { ready = true }) at after h
-never_answered known words taken (talks d next) before at after (inl h) = h
-never_answered known words taken (talks d next) before at after (inr h) = never_answered known words true (next h.0) (talked before (d.owes h.0) h.0) at after h.3
-never_answered known words taken (ends wire effects) before at after h = h.0.3
+never_answered : (known : Known) (words : List (List ℕ)) (taken : Bool) (tree : Tree) (before : Outside) (slots : List (List Slot)) (at : ℕ) (after : Outside)
+    → IsAnswered known words taken tree before slots (status.BadWords at) after → ⊥
+never_answered known words taken (reads word limit next) before slots at after (inl h) = h.0
+never_answered known words taken (reads word limit next) before slots at after (inr h) = never_answered known words taken (next h.0) before slots at after h.2
+never_answered known words taken (refuses why) before slots at after (inl e, quiet, none) = cc e
+never_answered known words taken (refuses why) before slots at after (inr h, quiet, none) = let f : IsVerdict (status.BadWords at) = subst IsVerdict (sym h.0) h.1 in f
+never_answered known words taken (places word set next) before [] at after h = h.0
+never_answered known words taken (places word set next) before (chosen ∷ rest) at after h = never_answered known words taken (next chosen) before rest at after h.1
+never_answered known words taken (opens next) before slots at after (inl (inl e, quiet, none)) = cc e
+never_answered known words taken (opens next) before slots at after (inl (inr e, quiet, none)) = cc e
+never_answered known words taken (opens next) before slots at after (inr h) = never_answered known words taken next (record before { ready = true }) slots at after h
+never_answered known words taken (talks d next) before slots at after (inl h) = h.0
+never_answered known words taken (talks d next) before slots at after (inr h) = never_answered known words true (next h.0) (talked before (d.owes h.0) h.0) slots at after h.3
+never_answered known words taken (ends wire effects) before slots at after h = h.0.3
 
-no_bad_words : (known : Known) (words : List (List ℕ)) (tree : Tree) (before : Outside) (why : Status) (after : Outside) → IsAnswered known words false tree before why after → IsBadWords why None
-no_bad_words known words tree before (status.BadWords at) after h = absurd (never_answered known words false tree before at after h)
-no_bad_words known words tree before _ after h = refl
+no_bad_words : (known : Known) (words : List (List ℕ)) (tree : Tree) (before : Outside) (slots : List (List Slot)) (why : Status) (after : Outside)
+    → IsAnswered known words false tree before slots why after → IsBadWords why None
+no_bad_words known words tree before slots (status.BadWords at) after h = absurd (never_answered known words false tree before slots at after h)
+no_bad_words known words tree before slots _ after h = refl
 
 pub answers_bad_words : (known : Known) (words : List (List ℕ)) (before : Outside) (end : End) → Answers known words before end → IsBadWords end.status (bad_word words)
 answers_bad_words known words before end = by_words (bad_word words) (command_of words)
@@ -78,9 +80,9 @@ answers_bad_words known words before end = by_words (bad_word words) (command_of
     by_words (Some at) command h = subst (λ (d : End). IsBadWords d.status (Some at)) (sym h) refl
     by_words None None h = absurd h
     by_words None (Some command) h =
-        no_bad_words known words (tree_of command words) before end.status end.left (follows_answers known words false (tree_of command words) before end h)
+        no_bad_words known words (tree_of command words) before end.placed end.status end.left (follows_answers known words false (tree_of command words) before end h)
 
-pub answers_of_command : (known : Known) (words : List (List ℕ)) (before : Outside) (end : End) → Answers known words before end → IsOfCommand known words before end.status end.left
+pub answers_of_command : (known : Known) (words : List (List ℕ)) (before : Outside) (end : End) → Answers known words before end → IsOfCommand known words before end
 answers_of_command known words before end h = λ command fit named.
     follows_answers known words false (tree_of command words) before end (follows_told known words before end h command fit named)
 

@@ -5,6 +5,7 @@ use Rattle.std.specs.declared.result.Result.{Result}
 use Rattle.std.proofs.lemmas.Bool.Decides.{nat_tests}
 use Rattle.psi_spec.specs.Limits.{bins_for, file_limit, usual_stash}
 use Rattle.psi_spec.specs.Meeting.{IsSetup, ShowsCommon, shown}
+use Rattle.psi_spec.specs.Placement.{Slot}
 use Rattle.psi_spec.specs.Texts.{lines_text}
 use Rattle.psi_top.specs.Words.{number_of, seed_of, word_at}
 use Rattle.psi_spec.proofs.Dealing.{dealt_setup, stash_placement}
@@ -24,6 +25,7 @@ use Rattle.psi_top.specs.declared.status.Status.TheVariants as status
 use Rattle.psi_top.proofs.Answered.{follows_answers}
 use Rattle.psi_top.proofs.JudgedFiles.{AtFile, unread, wanting, refused, taken_on, answered_items, has_bad_line, has_items, items_bad, left_decides, left_items}
 use Rattle.psi_top.proofs.Laws.{answers_done, follows_told}
+use Rattle.psi_top.proofs.Unplaced.{PlacesNone, decides_none, items_place_none, none_is_placed}
 
 few_is : (xs : List (List ℕ)) → nat_lt most_local (length xs) ≡ true → few_enough xs ≡ Err (status.LargeSet (length xs))
 unfolding few_enough
@@ -87,6 +89,12 @@ answers_shown known words before end h = λ named done. local_leaves known words
 
 -- ---- what `local` may answer
 
+local_places_none : (words : List (List ℕ)) → PlacesNone (local_tree words)
+unfolding PlacesNone
+local_places_none words =
+    items_place_none 1 (λ xs. reads_items 2 (λ ys. local_rest words xs ys)) (λ xs. items_place_none 2 (λ ys. local_rest words xs ys)
+    (λ ys. decides_none (few_enough xs) (λ _. ends None (says (local_text words xs ys) ∷ [])) (λ _. tt)))
+
 first_unread : (known : Known) (words : List (List ℕ)) (before : Outside) (why : Status) → IsUnread 1 file_limit why → LocalAnswers known words before why
 first_unread known words before (status.FileFault place) h = inl h
 first_unread known words before (status.TooLong place taken) h = inl h
@@ -117,42 +125,45 @@ of_end known words before text both (status.FileFault place) h = absurd (no_file
 of_end known words before text both _ h = absurd h.3
 
 of_rest : (known : Known) (words : List (List ℕ)) (before : Outside) (xs ys : List (List ℕ)) → HasItems known words before 1 xs → HasItems known words before 2 ys
-    → (why : Status) (after : Outside) → IsAnswered known words false (local_rest words xs ys) before why after → LocalAnswers known words before why
+    → (slots : List (List Slot)) (why : Status) (after : Outside) → IsAnswered known words false (local_rest words xs ys) before slots why after → LocalAnswers known words before why
 unfolding decides
-of_rest known words before xs ys first second why after a = by_size (few_enough xs) refl a
+of_rest known words before xs ys first second slots why after a = by_size (few_enough xs) refl a
   where
     by_size : (r : Result (Unit {0}) Status) → few_enough xs ≡ r
-        → IsAnswered known words false (decides r (λ _. ends None (says (local_text words xs ys) ∷ []))) before why after → LocalAnswers known words before why
+        → IsAnswered known words false (decides r (λ _. ends None (says (local_text words xs ys) ∷ []))) before slots why after → LocalAnswers known words before why
     by_size (Ok x) e a = of_end known words before (local_text words xs ys) (record { xs = xs; ys = ys; x_file = first; y_file = second; fact = few_ok xs x e }) why a.0
-    by_size (Err verdict) e (inl s, quiet) = subst (λ (x : Status). LocalAnswers known words before x) (sym s) tt
-    by_size (Err verdict) e (inr s, quiet) =
+    by_size (Err verdict) e (inl s, quiet, none) = subst (λ (x : Status). LocalAnswers known words before x) (sym s) tt
+    by_size (Err verdict) e (inr s, quiet, none) =
         let large = few_err xs verdict e in
         subst (λ (x : Status). LocalAnswers known words before x) (sym (s.0 ∙ large.0))
         (record { xs = xs; ys = ys; x_file = first; y_file = second; fact = (refl, large.1) })
 
-of_second : (known : Known) (words : List (List ℕ)) (before : Outside) (xs : List (List ℕ)) → HasItems known words before 1 xs → (why : Status) (after : Outside)
-    → AtFile known words before 2 (items_in 2) why after (λ ys. IsAnswered known words false (local_rest words xs ys) before why after) → LocalAnswers known words before why
-of_second known words before xs first why after (unread h quiet) = second_unread known words before xs first why h
-of_second known words before xs first why after (wanting s quiet) = subst (λ (x : Status). LocalAnswers known words before x) (sym s) tt
-of_second known words before xs first why after (refused bytes read e quiet) =
+of_second : (known : Known) (words : List (List ℕ)) (before : Outside) (xs : List (List ℕ)) → HasItems known words before 1 xs → (slots : List (List Slot)) (why : Status) (after : Outside)
+    → AtFile known words before 2 (items_in 2) slots why after (λ ys. IsAnswered known words false (local_rest words xs ys) before slots why after) → LocalAnswers known words before why
+of_second known words before xs first slots why after (unread h quiet none) = second_unread known words before xs first why h
+of_second known words before xs first slots why after (wanting s quiet none) = subst (λ (x : Status). LocalAnswers known words before x) (sym s) tt
+of_second known words before xs first slots why after (refused bytes read e quiet none) =
     let bad = items_bad 2 bytes why e in
     subst (λ (x : Status). LocalAnswers known words before x) (sym bad.2) (inr (xs, first, (refl, has_bad_line known words before 2 bytes bad.0 read bad.1)))
-of_second known words before xs first why after (taken_on bytes ys read e a) =
-    of_rest known words before xs ys first (has_items known words before 2 bytes ys read e) why after a
+of_second known words before xs first slots why after (taken_on bytes ys read e a) =
+    of_rest known words before xs ys first (has_items known words before 2 bytes ys read e) slots why after a
 
-of_first : (known : Known) (words : List (List ℕ)) (before : Outside) (why : Status) (after : Outside)
-    → AtFile known words before 1 (items_in 1) why after (λ xs. IsAnswered known words false (reads_items 2 (λ ys. local_rest words xs ys)) before why after)
+of_first : (known : Known) (words : List (List ℕ)) (before : Outside) (slots : List (List Slot)) (why : Status) (after : Outside)
+    → AtFile known words before 1 (items_in 1) slots why after (λ xs. IsAnswered known words false (reads_items 2 (λ ys. local_rest words xs ys)) before slots why after)
     → LocalAnswers known words before why
-of_first known words before why after (unread h quiet) = first_unread known words before why h
-of_first known words before why after (wanting s quiet) = subst (λ (x : Status). LocalAnswers known words before x) (sym s) tt
-of_first known words before why after (refused bytes read e quiet) =
+of_first known words before slots why after (unread h quiet none) = first_unread known words before why h
+of_first known words before slots why after (wanting s quiet none) = subst (λ (x : Status). LocalAnswers known words before x) (sym s) tt
+of_first known words before slots why after (refused bytes read e quiet none) =
     let bad = items_bad 1 bytes why e in
     subst (λ (x : Status). LocalAnswers known words before x) (sym bad.2) (inl (refl, has_bad_line known words before 1 bytes bad.0 read bad.1))
-of_first known words before why after (taken_on bytes xs read e a) =
-    of_second known words before xs (has_items known words before 1 bytes xs read e) why after
-    (answered_items known words 2 (λ ys. local_rest words xs ys) before why after a)
+of_first known words before slots why after (taken_on bytes xs read e a) =
+    of_second known words before xs (has_items known words before 1 bytes xs read e) slots why after
+    (answered_items known words 2 (λ ys. local_rest words xs ys) before slots why after a)
 
-pub answers_local : (known : Known) (words : List (List ℕ)) (before : Outside) (end : End) → Answers known words before end → IsOfLocal known words before end.status
+pub answers_local : (known : Known) (words : List (List ℕ)) (before : Outside) (end : End) → Answers known words before end → IsOfLocal known words before end
 answers_local known words before end h = λ fit named.
-    let a = follows_answers known words false (local_tree words) before end (follows_told known words before end h Local fit named) in
-    of_first known words before end.status end.left (answered_items known words 1 (λ xs. reads_items 2 (λ ys. local_rest words xs ys)) before end.status end.left a)
+    let a = follows_answers known words false (local_tree words) before end (follows_told known words before end h Local fit named) in (
+      of_first known words before end.placed end.status end.left
+          (answered_items known words 1 (λ xs. reads_items 2 (λ ys. local_rest words xs ys)) before end.placed end.status end.left a),
+      none_is_placed known words false (local_tree words) before end.placed end.status end.left (local_places_none words) a,
+    )

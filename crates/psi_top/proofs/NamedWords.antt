@@ -6,23 +6,26 @@ use Rattle.psi_top.specs.Words.{Forms, bad_from, bad_word, forms_of, word_at}
 use Rattle.psi_spec.proofs.Tags.{same_from_bytes_eq}
 use Rattle.psi_top.specs.Form.{command_of, name_of}
 use Rattle.psi_top.specs.declared.form.Command.{Command}
-use Rattle.psi_top.specs.declared.form.Command.TheVariants.{Deal, Local, Send}
+use Rattle.psi_top.specs.declared.form.Command.TheVariants.{Deal, Local, Receive, Send}
 
 named_so : (name : List ℕ) (command found : Command) → Some found ≡ Some command → name ≡ name_of found → name ≡ name_of command
 named_so name command found e same = let f : found ≡ command = cc e in same ∙ ap name_of f
 
 -- the first word is the command's name
 pub first_word : (words : List (List ℕ)) (command : Command) → command_of words ≡ Some command → word_at words 0 ≡ name_of command
-first_word words command named = by_tests (bytes_eq (word_at words 0) (codes "local")) (bytes_eq (word_at words 0) (codes "deal")) (bytes_eq (word_at words 0) (codes "send"))
-    refl refl refl named
+first_word words command named =
+    by_tests (bytes_eq (word_at words 0) (codes "local")) (bytes_eq (word_at words 0) (codes "deal")) (bytes_eq (word_at words 0) (codes "send"))
+    (bytes_eq (word_at words 0) (codes "receive")) refl refl refl refl named
   where
-    by_tests : (is_local is_deal is_send : Bool) → bytes_eq (word_at words 0) (codes "local") ≡ is_local → bytes_eq (word_at words 0) (codes "deal") ≡ is_deal
-        → bytes_eq (word_at words 0) (codes "send") ≡ is_send
-        → (if is_local then Some Local else if is_deal then Some Deal else if is_send then Some Send else None) ≡ Some command → word_at words 0 ≡ name_of command
-    by_tests true is_deal is_send l d s e = named_so (word_at words 0) command Local e (same_from_bytes_eq (word_at words 0) (codes "local") l)
-    by_tests false true is_send l d s e = named_so (word_at words 0) command Deal e (same_from_bytes_eq (word_at words 0) (codes "deal") d)
-    by_tests false false true l d s e = named_so (word_at words 0) command Send e (same_from_bytes_eq (word_at words 0) (codes "send") s)
-    by_tests false false false l d s e = cc e
+    by_tests : (is_local is_deal is_send is_receive : Bool) → bytes_eq (word_at words 0) (codes "local") ≡ is_local → bytes_eq (word_at words 0) (codes "deal") ≡ is_deal
+        → bytes_eq (word_at words 0) (codes "send") ≡ is_send → bytes_eq (word_at words 0) (codes "receive") ≡ is_receive
+        → (if is_local then Some Local else if is_deal then Some Deal else if is_send then Some Send else if is_receive then Some Receive else None) ≡ Some command
+        → word_at words 0 ≡ name_of command
+    by_tests true is_deal is_send is_receive l d s r e = named_so (word_at words 0) command Local e (same_from_bytes_eq (word_at words 0) (codes "local") l)
+    by_tests false true is_send is_receive l d s r e = named_so (word_at words 0) command Deal e (same_from_bytes_eq (word_at words 0) (codes "deal") d)
+    by_tests false false true is_receive l d s r e = named_so (word_at words 0) command Send e (same_from_bytes_eq (word_at words 0) (codes "send") s)
+    by_tests false false false true l d s r e = named_so (word_at words 0) command Receive e (same_from_bytes_eq (word_at words 0) (codes "receive") r)
+    by_tests false false false false l d s r e = cc e
 
 -- the words have the forms of the command
 pub forms_fit : (words : List (List ℕ)) (command : Command) → bad_word words ≡ None → command_of words ≡ Some command

@@ -49,7 +49,7 @@ end_placed : (taken : Bool) (wire : Option (List ℕ)) (before : Outside) (end :
 end_placed taken wire before end (gave_up t e) = ap (λ (d : End). d.placed) e
 end_placed taken wire before end (all_done e) = ap (λ (d : End). d.placed) e
 
-does_placed : (words : List (List ℕ)) (taken : Bool) (wire : Option (List ℕ)) (effects : List Effect) (before : Outside) (end : End)
+pub does_placed : (words : List (List ℕ)) (taken : Bool) (wire : Option (List ℕ)) (effects : List Effect) (before : Outside) (end : End)
     → Does words taken wire effects before end → end.placed ≡ []
 unfolding Does
 does_placed words taken wire [] before end h = end_placed taken wire before end h

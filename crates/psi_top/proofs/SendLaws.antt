@@ -8,6 +8,7 @@ use Rattle.psi_spec.specs.Deals.{SenderDeal, IsSenderDeal, sender_columns}
 use Rattle.psi_spec.specs.Frames.{layout, sender_hello}
 use Rattle.psi_spec.specs.Items.{first_bad, items_of}
 use Rattle.psi_spec.specs.Limits.{file_limit, rows_for}
+use Rattle.psi_spec.specs.Placement.{Slot}
 use Rattle.psi_base.specs.Outside.{Known, Outside, Files, Starved}
 use Rattle.psi_deal.specs.BadDeals.{bad_deal}
 use Rattle.psi_frames.specs.declared.expect.Expect.TheVariants as expect
@@ -34,6 +35,7 @@ use Rattle.psi_top.specs.Due.{Contents, told}
 use Rattle.psi_top.proofs.Answered.{follows_answers}
 use Rattle.psi_top.proofs.JudgedFiles.{AtFile, unread, wanting, refused, taken_on, answered_items, answered_sender, has_bad_line, has_bad_sender, has_items, has_sender, items_bad, left_items, left_sender, sender_bad}
 use Rattle.psi_top.proofs.Laws.{answers_done, answers_through, follows_told}
+use Rattle.psi_top.proofs.Unplaced.{PlacesNone, items_place_none, none_is_placed, sender_places_none}
 
 -- ---- the session
 
@@ -142,56 +144,63 @@ of_end known words before status.NoMemory after done (inr h) = absurd (none_ther
 of_end known words before _ after done h = absurd (none_there h.0 h.1 h.2)
 
 of_talk : (known : Known) (words : List (List ℕ)) (before : Outside) (ys : List (List ℕ)) (deal : SenderDeal)
-    → HasItems known words before 2 ys → HasSenderDeal known words before 3 deal → (why : Status) (after : Outside)
+    → HasItems known words before 2 ys → HasSenderDeal known words before 3 deal → (slots : List (List Slot)) (why : Status) (after : Outside)
     → (why ≡ status.Done → SendAnswers known words before why after)
-    → IsAnswered known words false (talks (sender_dialogue deal ys) (λ taken. ends None [])) (opened before) why after → SendAnswers known words before why after
-of_talk known words before ys deal y_file s_file why after done (inl h) = of_session known words before ys deal y_file s_file why after h
-of_talk known words before ys deal y_file s_file why after done (inr h) = of_end known words before why after done h.3.0
+    → IsAnswered known words false (talks (sender_dialogue deal ys) (λ taken. ends None [])) (opened before) slots why after → SendAnswers known words before why after
+of_talk known words before ys deal y_file s_file slots why after done (inl h) = of_session known words before ys deal y_file s_file why after h.0
+of_talk known words before ys deal y_file s_file slots why after done (inr h) = of_end known words before why after done h.3.0
 
 of_rest : (known : Known) (words : List (List ℕ)) (before : Outside) (ys : List (List ℕ)) (deal : SenderDeal)
-    → HasItems known words before 2 ys → HasSenderDeal known words before 3 deal → (why : Status) (after : Outside)
+    → HasItems known words before 2 ys → HasSenderDeal known words before 3 deal → (slots : List (List Slot)) (why : Status) (after : Outside)
     → (why ≡ status.Done → SendAnswers known words before why after)
-    → IsAnswered known words false (send_rest ys deal) before why after → SendAnswers known words before why after
-of_rest known words before ys deal y_file s_file why after done (inl (inl s, quiet)) =
+    → IsAnswered known words false (send_rest ys deal) before slots why after → SendAnswers known words before why after
+of_rest known words before ys deal y_file s_file slots why after done (inl (inl s, quiet, none)) =
     subst (λ (x : Status). SendAnswers known words before x after) (sym s) (record { ys = ys; deal = deal; y_file = y_file; s_file = s_file; fact = inl quiet })
-of_rest known words before ys deal y_file s_file why after done (inl (inr s, quiet)) = wanted known words before why after s quiet
-of_rest known words before ys deal y_file s_file why after done (inr h) = of_talk known words before ys deal y_file s_file why after done h
+of_rest known words before ys deal y_file s_file slots why after done (inl (inr s, quiet, none)) = wanted known words before why after s quiet
+of_rest known words before ys deal y_file s_file slots why after done (inr h) = of_talk known words before ys deal y_file s_file slots why after done h
 
-of_second : (known : Known) (words : List (List ℕ)) (before : Outside) (ys : List (List ℕ)) → HasItems known words before 2 ys → (why : Status) (after : Outside)
+of_second : (known : Known) (words : List (List ℕ)) (before : Outside) (ys : List (List ℕ)) → HasItems known words before 2 ys → (slots : List (List Slot)) (why : Status) (after : Outside)
     → (why ≡ status.Done → SendAnswers known words before why after)
-    → AtFile known words before 3 (sender_in 3) why after (λ deal. IsAnswered known words false (send_rest ys deal) before why after) → SendAnswers known words before why after
-of_second known words before ys y_file why after done (unread h quiet) = second_unread known words before (ys, y_file) why after h quiet
-of_second known words before ys y_file why after done (wanting s quiet) = wanted known words before why after s quiet
-of_second known words before ys y_file why after done (refused bytes read e quiet) =
+    → AtFile known words before 3 (sender_in 3) slots why after (λ deal. IsAnswered known words false (send_rest ys deal) before slots why after) → SendAnswers known words before why after
+of_second known words before ys y_file slots why after done (unread h quiet none) = second_unread known words before (ys, y_file) why after h quiet
+of_second known words before ys y_file slots why after done (wanting s quiet none) = wanted known words before why after s quiet
+of_second known words before ys y_file slots why after done (refused bytes read e quiet none) =
     let bad = sender_bad 3 bytes why e in
     subst (λ (x : Status). SendAnswers known words before x after) (sym bad.2)
     (refl, (ys, y_file), has_bad_sender known words before 3 bytes bad.0 read bad.1, quiet)
-of_second known words before ys y_file why after done (taken_on bytes deal read e a) =
-    of_rest known words before ys deal y_file (has_sender known words before 3 bytes deal read e) why after done a
+of_second known words before ys y_file slots why after done (taken_on bytes deal read e a) =
+    of_rest known words before ys deal y_file (has_sender known words before 3 bytes deal read e) slots why after done a
 
-of_first : (known : Known) (words : List (List ℕ)) (before : Outside) (why : Status) (after : Outside) → (why ≡ status.Done → SendAnswers known words before why after)
-    → AtFile known words before 2 (items_in 2) why after (λ ys. IsAnswered known words false (reads_sender 3 (λ deal. send_rest ys deal)) before why after)
+of_first : (known : Known) (words : List (List ℕ)) (before : Outside) (slots : List (List Slot)) (why : Status) (after : Outside) → (why ≡ status.Done → SendAnswers known words before why after)
+    → AtFile known words before 2 (items_in 2) slots why after (λ ys. IsAnswered known words false (reads_sender 3 (λ deal. send_rest ys deal)) before slots why after)
     → SendAnswers known words before why after
-of_first known words before why after done (unread h quiet) = first_unread known words before why after h quiet
-of_first known words before why after done (wanting s quiet) = wanted known words before why after s quiet
-of_first known words before why after done (refused bytes read e quiet) =
+of_first known words before slots why after done (unread h quiet none) = first_unread known words before why after h quiet
+of_first known words before slots why after done (wanting s quiet none) = wanted known words before why after s quiet
+of_first known words before slots why after done (refused bytes read e quiet none) =
     let bad = items_bad 2 bytes why e in
     subst (λ (x : Status). SendAnswers known words before x after) (sym bad.2) (refl, has_bad_line known words before 2 bytes bad.0 read bad.1, quiet)
-of_first known words before why after done (taken_on bytes ys read e a) =
-    of_second known words before ys (has_items known words before 2 bytes ys read e) why after done
-    (answered_sender known words 3 (λ deal. send_rest ys deal) before why after a)
+of_first known words before slots why after done (taken_on bytes ys read e a) =
+    of_second known words before ys (has_items known words before 2 bytes ys read e) slots why after done
+    (answered_sender known words 3 (λ deal. send_rest ys deal) before slots why after a)
+
+send_places_none : PlacesNone send_tree
+unfolding PlacesNone
+send_places_none =
+    items_place_none 2 (λ ys. reads_sender 3 (λ deal. send_rest ys deal)) (λ ys. sender_places_none 3 (λ deal. send_rest ys deal) (λ deal. λ taken. tt))
 
 pub answers_send : (known : Known) (words : List (List ℕ)) (before : Outside) (end : End) → Answers known words before end → IsOfSend known words before end
 answers_send known words before end h = λ fit named.
     let follows = follows_told known words before end h Send fit named in
-    let a = follows_answers known words false send_tree before end follows in
-    of_first known words before end.status end.left
-    (λ done. subst (λ (x : Status). SendAnswers known words before x end.left) (sym done) (send_leaves known words before end (answers_done known words before end h Send named done)))
-    (answered_items known words 2 (λ ys. reads_sender 3 (λ deal. send_rest ys deal)) before end.status end.left a)
+    let a = follows_answers known words false send_tree before end follows in (
+      of_first known words before end.placed end.status end.left
+          (λ done. subst (λ (x : Status). SendAnswers known words before x end.left) (sym done) (send_leaves known words before end (answers_done known words before end h Send named done)))
+          (answered_items known words 2 (λ ys. reads_sender 3 (λ deal. send_rest ys deal)) before end.placed end.status end.left a),
+      none_is_placed known words false send_tree before end.placed end.status end.left send_places_none a,
+    )
 
 -- ---- an honest peer is served
 
-items_ready : (words : List (List ℕ)) (bytes : List ℕ) (word : ℕ) → first_bad bytes ≡ None → items_in word bytes ≡ Ok (items_of bytes)
+pub items_ready : (words : List (List ℕ)) (bytes : List ℕ) (word : ℕ) → first_bad bytes ≡ None → items_in word bytes ≡ Ok (items_of bytes)
 unfolding items_in
 items_ready words bytes word none = rw none refl
 
@@ -210,7 +219,7 @@ session_ready words contents before incoming ys deal stream rest count columns t
 short_deal : (deal : SenderDeal) → IsSenderDeal deal → length (sender_bytes deal) ≤ file_limit
 short_deal deal is = omega (arith, length-sender_bytes deal is)
 
-ready_on : {A : Type 0} (contents : Contents) (before : Outside) (due : Result A Status) (x : A) (next : A → Tree) → due ≡ Ok x
+pub ready_on : {A : Type 0} (contents : Contents) (before : Outside) (due : Result A Status) (x : A) (next : A → Tree) → due ≡ Ok x
     → IsReady contents before (next x) → IsReady contents before (decides due next)
 unfolding decides
 ready_on contents before due x next e r = subst (λ (d : Result _ Status). IsReady contents before (decides d next)) (sym e) r

@@ -1,13 +1,14 @@
 -- Steps from what their functions answer.
-use Rattle.std.proofs.Common.{◌≡◌, ℕ, Bool, false, List, [], ◌∷◌, Option, None, Ok, Err, IsErrAnd, refl, sym, subst}
+use Rattle.std.proofs.Common.{◌≡◌, ℕ, Bool, false, true, List, [], ◌∷◌, Option, None, Ok, Err, IsErrAnd, refl, sym, ap₂, subst}
 use Rattle.std.specs.declared.result.Result.{Result}
+use Rattle.psi_spec.specs.CrowdedLists.{touched_by}
 use Rattle.psi_spec.specs.Frames.{AreBytes}
+use Rattle.psi_spec.specs.Placement.{Slot}
 use Rattle.psi_base.specs.Outside.{Known, Outside}
-use Rattle.psi_top.specs.Tree.{Tree, reads, refuses, places, opens, talks, ends, Effect, says, puts, decides, End, stopped, end_of}
-use Rattle.psi_frames.specs.Converse.{Converses}
-use Rattle.psi_frames.specs.Script.{Script, dialogue_of}
+use Rattle.psi_top.specs.Tree.{Placing, Tree, reads, refuses, places, opens, talks, ends, Effect, says, puts, decides, End, stopped, end_of, with_slots}
+use Rattle.psi_frames.specs.Dialogue.{Dialogue, Talks}
 use Rattle.psi_frames.specs.declared.turns.EndFault.{EndFault}
-use Rattle.psi_top.specs.Walk.{StepsTalk, cut, passed, talk_status, starved, hungry, given_up, refused, gave_up, all_done, IsVerdict, Does, Follows, Runs, Settles, Steps, StepsRead}
+use Rattle.psi_top.specs.Walk.{Places, StepsTalk, crowded, cut, passed, placed, talk_status, starved, hungry, given_up, refused, gave_up, all_done, IsVerdict, Does, Follows, Runs, Settles, Steps, StepsRead}
 use Rattle.psi_top.specs.declared.status.Outcome.{Outcome}
 use Rattle.psi_top.specs.declared.status.Status.{Status}
 use Rattle.psi_top.specs.declared.status.Status.TheVariants as status
@@ -83,15 +84,37 @@ pub settles_out : {A : Type 0} (known : Known) (words : List (List ℕ)) (due : 
 settles_out known words due next before why h = settled due (Err why) h known words before next
 
 -- a session that was done, and one that ended early
-pub talks_on : (known : Known) (words : List (List ℕ)) (script : Script) (before after : Outside) (x : Unit {0})
-    → Converses known script before (Ok x) after → StepsTalk known words (dialogue_of script) before (Ok x) after
+pub talks_on : (known : Known) (words : List (List ℕ)) (d : Dialogue) (Told : List ℕ → Type 0) (before after : Outside) (taken : List ℕ) (x : Unit {0})
+    → Talks known d before (Ok taken) after → Told taken → StepsTalk known words d Told before (Ok x) after
 unfolding Follows
-talks_on known words script before after x h = λ next end later. passed h.0 after h.1 (later h.0)
+talks_on known words d Told before after taken x h told = (taken, told, λ next end later. passed taken after h later)
 
-pub talks_out : (known : Known) (words : List (List ℕ)) (script : Script) (before after : Outside) (why : EndFault)
-    → Converses known script before (Err why) after → StepsTalk known words (dialogue_of script) before (Err (talk_status why)) after
+pub talks_out : (known : Known) (words : List (List ℕ)) (d : Dialogue) (Told : List ℕ → Type 0) (before after : Outside) (why : EndFault)
+    → Talks known d before (Err why) after → StepsTalk known words d Told before (Err (talk_status why)) after
 unfolding Follows
-talks_out known words script before after why h = λ next. cut why after h refl
+talks_out known words d Told before after why h = λ next. cut why after h refl
+
+-- what follows a session that was done, whatever the bytes that were taken
+pub talked_on : (known : Known) (words : List (List ℕ)) (d : Dialogue) (Told : List ℕ → Type 0) (before after : Outside) (next : List ℕ → Tree) (end : End)
+    → StepsTalk known words d Told before (Ok tt) after → ((taken : List ℕ) → Follows known words true (next taken) after end) → Runs known words (talks d next) before end
+talked_on known words d Told before after next end talk later = talk.2 next end (later talk.0)
+
+-- a set that got slots, and one that got none
+pub places_on : (known : Known) (words : List (List ℕ)) (word : ℕ) (set : Placing) (next : List Slot → Tree) (before : Outside) (slots : List Slot) (later : End)
+    → Places word set (Ok slots) → Runs known words (next slots) before later → Runs known words (places word set next) before (with_slots slots later)
+unfolding Follows
+places_on known words word set next before slots later is rest = placed slots later is refl rest
+
+pub places_out : (known : Known) (words : List (List ℕ)) (word : ℕ) (set : Placing) (next : List Slot → Tree) (before : Outside) (why : Status)
+    → Places word set (Err why) → Runs known words (places word set next) before (stopped why before)
+unfolding Follows
+places_out known words word set next before (status.NoPlacement place items touched) h =
+    subst (λ (s : Status). Runs known words (places word set next) before (stopped s before)) (sym (same h.0 h.2)) (crowded items h.1 refl)
+  where
+    same : place ≡ word → touched ≡ touched_by set.candidates items → status.NoPlacement place items touched ≡ status.NoPlacement word items (touched_by set.candidates items)
+    same e f = ap₂ (λ (p t : ℕ). status.NoPlacement p items t) e f
+places_out known words word set next before status.NoMemory h = hungry refl refl
+places_out known words word set next before _ h = absurd h
 
 -- what every exit of a command may cite
-pub ruleset walk = (starves, starves_out, ends_done, decides_ok, settles_out)
+pub ruleset walk = (starves, starves_out, ends_done, decides_ok, settles_out, places_out)

@@ -2,8 +2,8 @@
 use Rattle.std.specs.Prelude.{ℕ, List, Option, None, Some, Result, Ok, Err}
 use Rattle.psi_spec.specs.Items.{BadLine, items_of, first_bad}
 use Rattle.psi_spec.specs.Limits.{file_limit}
-use Rattle.psi_spec.specs.DealFiles.{sender_of, sender_size}
-use Rattle.psi_spec.specs.Deals.{SenderDeal}
+use Rattle.psi_spec.specs.DealFiles.{receiver_of, receiver_size, sender_of, sender_size}
+use Rattle.psi_spec.specs.Deals.{ReceiverDeal, SenderDeal}
 use Rattle.psi_deal.specs.BadDeals.{bad_deal}
 use Rattle.psi_deal.specs.declared.errors.BadDeal.{BadDeal as DealFault}
 use Rattle.psi_items.specs.Reading.{bad_items_of}
@@ -34,3 +34,15 @@ sender_in word bytes = judged_sender word bytes (bad_deal 1 sender_size bytes)
 -- the steps that read the sender's deal file of a word and judge it
 unfoldable pub reads_sender : ℕ → (SenderDeal → Tree) → Tree
 reads_sender word next = reads word file_limit (λ bytes. decides (sender_in word bytes) next)
+
+-- the receiver's deal that the file of a word spells, or why it is none
+abbrev pub judged_receiver : ℕ → List ℕ → Option DealFault → Result ReceiverDeal Status
+judged_receiver word bytes None = Ok (receiver_of bytes)
+judged_receiver word bytes (Some fault) = Err (BadDeal word fault)
+
+unfoldable pub receiver_in : ℕ → List ℕ → Result ReceiverDeal Status
+receiver_in word bytes = judged_receiver word bytes (bad_deal 0 receiver_size bytes)
+
+-- the steps that read the receiver's deal file of a word and judge it
+unfoldable pub reads_receiver : ℕ → (ReceiverDeal → Tree) → Tree
+reads_receiver word next = reads word file_limit (λ bytes. decides (receiver_in word bytes) next)

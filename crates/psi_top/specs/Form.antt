@@ -3,7 +3,7 @@ use Rattle.std.specs.Prelude.{ℕ, List, map, Option, Some, None, codes, if◌th
 use Rattle.std.specs.Str.{bytes_eq}
 use Rattle.psi_top.specs.Words.{Form as Test, Forms, alone, are_sizes, is_name, is_output, is_seed, is_session, is_tag_length, word_at}
 use Rattle.psi_top.specs.declared.form.Command.{Command}
-use Rattle.psi_top.specs.declared.form.Command.TheVariants.{Deal, Local, Send}
+use Rattle.psi_top.specs.declared.form.Command.TheVariants.{Deal, Local, Receive, Send}
 use Rattle.psi_top.specs.declared.form.CommandForms.{CommandForms}
 use Rattle.psi_top.specs.declared.form.Form.{Form}
 use Rattle.psi_top.specs.declared.form.Form.TheVariants.{Name, Output, Seed, Session, Sizes, TagLength}
@@ -30,6 +30,7 @@ abbrev pub name_of : Command → List ℕ
 name_of Deal = codes "deal"
 name_of Local = codes "local"
 name_of Send = codes "send"
+name_of Receive = codes "receive"
 
 -- the command that the first word names
 abbrev pub command_of : List (List ℕ) → Option Command
@@ -37,4 +38,5 @@ command_of words =
     if bytes_eq (word_at words 0) (codes "local") then Some Local
     else if bytes_eq (word_at words 0) (codes "deal") then Some Deal
     else if bytes_eq (word_at words 0) (codes "send") then Some Send
+    else if bytes_eq (word_at words 0) (codes "receive") then Some Receive
     else None

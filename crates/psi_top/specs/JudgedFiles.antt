@@ -1,7 +1,7 @@
 -- Files that were read, and what they hold.
 use Rattle.std.specs.Prelude.{◌≡◌, ℕ, List, None, Some}
-use Rattle.psi_spec.specs.DealFiles.{sender_of, sender_size}
-use Rattle.psi_spec.specs.Deals.{SenderDeal}
+use Rattle.psi_spec.specs.DealFiles.{receiver_of, receiver_size, sender_of, sender_size}
+use Rattle.psi_spec.specs.Deals.{ReceiverDeal, SenderDeal}
 use Rattle.psi_spec.specs.Items.{BadLine, first_bad, items_of}
 use Rattle.psi_spec.specs.Limits.{file_limit}
 use Rattle.psi_base.specs.Outside.{Known, Outside}
@@ -42,3 +42,18 @@ pub record HasBadSenderDeal (known : Known) (words : List (List ℕ)) (before : 
   pub bytes : List ℕ
   pub read : WasRead known words before word file_limit bytes
   pub bad : bad_deal 1 sender_size bytes ≡ Some fault
+
+-- the receiver's deal file of a word was read, and this is its deal
+pub record HasReceiverDeal (known : Known) (words : List (List ℕ)) (before : Outside) (word : ℕ) (deal : ReceiverDeal)
+    : Type 0 where
+  pub bytes : List ℕ
+  pub read : WasRead known words before word file_limit bytes
+  pub good : bad_deal 0 receiver_size bytes ≡ None
+  pub spelled : deal ≡ receiver_of bytes
+
+-- the file of a word was read and is no deal file of the receiver, first for this reason
+pub record HasBadReceiverDeal (known : Known) (words : List (List ℕ)) (before : Outside) (word : ℕ) (fault : BadDeal)
+    : Type 0 where
+  pub bytes : List ℕ
+  pub read : WasRead known words before word file_limit bytes
+  pub bad : bad_deal 0 receiver_size bytes ≡ Some fault

@@ -8,6 +8,8 @@ pub mod JudgedFiles
 pub mod Local
 pub mod LocalPromises
 pub mod Promises
+pub mod Receive
+pub mod ReceivePromises
 pub mod Send
 pub mod SendPromises
 pub mod Session

@@ -1,5 +1,5 @@
 -- What callers read of `local`, in its own words.
-use Rattle.std.specs.Prelude.{◌≡◌, ◌<◌, ◌≤◌, ◌⊎◌, ℕ, List, Contains, length, map, Some, None}
+use Rattle.std.specs.Prelude.{◌≡◌, ◌<◌, ◌≤◌, ◌⊎◌, ℕ, List, [], Contains, length, map, Some, None}
 use Rattle.psi_spec.specs.Limits.{bins_for, file_limit, usual_stash}
 use Rattle.psi_spec.specs.Meeting.{Placed, SharesTag, shown, shown_placed}
 use Rattle.psi_spec.specs.Placement.{IsPlacementOf}
@@ -41,10 +41,11 @@ LocalAnswers known words before PrintFault = HasBoth known words before (λ xs. 
 LocalAnswers known words before NoMemory = Unit {0}
 LocalAnswers known words before _ = ⊥
 
--- the same where the words are those of `local`
-abbrev pub IsOfLocal : Known → List (List ℕ) → Outside → Status → Type 0
-IsOfLocal known words before why =
-    bad_word words ≡ None → command_of words ≡ Some Local → LocalAnswers known words before why
+-- the same where the words are those of `local`, whose outcome has no placement
+abbrev pub IsOfLocal : Known → List (List ℕ) → Outside → End → Type 0
+IsOfLocal known words before end =
+    bad_word words ≡ None → command_of words ≡ Some Local
+    → LocalAnswers known words before end.status × (end.placed ≡ [])
 
 -- `local` printed the receiver's items that are shown: every common item, and others of which each shares its tag with
 -- the sender's item that it names; the items are placed

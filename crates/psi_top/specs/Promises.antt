@@ -11,7 +11,7 @@ use Rattle.psi_frames.specs.Dialogue.{Dialogue, CutOff, HeardBad, HeardShort, Re
 use Rattle.psi_top.specs.Due.{Contents, Due, lacks, long, refusal, unplaced, reached, due, told, without, after_effects, after_part}
 use Rattle.psi_top.specs.Form.{command_of}
 use Rattle.psi_top.specs.Tree.{Effect, says, puts, Placing, Tree, reads, refuses, places, opens, talks, ends, End}
-use Rattle.psi_top.specs.Walk.{IsVerdict}
+use Rattle.psi_top.specs.Walk.{IsNotPlaced, IsVerdict}
 use Rattle.psi_top.specs.declared.form.Command.{Command}
 use Rattle.psi_top.specs.declared.status.Status.{Status}
 use Rattle.psi_top.specs.declared.status.Status.TheVariants.{Done, BadWords, NoPlacement, BadFrame, PeerEnded, FileFault, LinkFault, PrintFault, TooLong, NoMemory}
@@ -83,13 +83,6 @@ IsUnread word limit (TooLong place taken) = (place ≡ word) × (limit < taken)
 IsUnread word limit NoMemory = Unit {0}
 IsUnread word limit _ = ⊥
 
--- the statuses of a set that was not placed
-abbrev pub IsNotPlaced : ℕ → Placing → Status → Type 0
-IsNotPlaced word set (NoPlacement place items touched) =
-    (place ≡ word) × IsCrowded set.stash set.candidates items × (touched ≡ touched_by set.candidates items)
-IsNotPlaced word set NoMemory = Unit {0}
-IsNotPlaced word set _ = ⊥
-
 -- nothing was sent or taken over the link
 pub record IsSilent (before after : Outside) : Type 0 where
   pub incoming : after.incoming ≡ before.incoming
@@ -122,34 +115,36 @@ abbrev pub IsHungry : Bool → Outside → Status → Outside → Type 0
 IsHungry taken before NoMemory after = (taken ≡ false) ⊎ Rose before.refusals after.refusals
 IsHungry taken before _ after = Unit {0}
 
--- the tree comes to a step that answers this status, along contents that reads gave, placements and bytes of a peer;
--- and no more was sent or taken than along it
-abbrev pub IsAnswered : Known → List (List ℕ) → Bool → Tree → Outside → Status → Outside → Type 0
-IsAnswered known words taken (reads word limit next) before why after =
-    (IsUnread word limit why × IsSilent before after)
+-- the tree comes to a step that answers this status, along contents that reads gave, these placements in their order,
+-- and bytes of a peer; no more was sent or taken than along it, and no other set was placed
+abbrev pub IsAnswered
+    : Known → List (List ℕ) → Bool → Tree → Outside → List (List Slot) → Status → Outside → Type 0
+IsAnswered known words taken (reads word limit next) before slots why after =
+    (IsUnread word limit why × IsSilent before after × (slots ≡ []))
     ⊎ ((bytes : List ℕ) × WasRead known words before word limit bytes
-    × IsAnswered known words taken (next bytes) before why after)
-IsAnswered known words taken (refuses verdict) before why after =
-    ((why ≡ NoMemory) ⊎ ((why ≡ verdict) × IsVerdict verdict)) × IsSilent before after
-IsAnswered known words taken (places word set next) before why after =
-    (IsNotPlaced word set why × IsSilent before after)
-    ⊎ ((slots : List Slot) × IsPlacement set.stash set.bins set.candidates slots
-    × IsAnswered known words taken (next slots) before why after)
-IsAnswered known words taken (opens next) before why after =
-    (((why ≡ LinkFault) ⊎ (why ≡ NoMemory)) × IsSilent before after)
-    ⊎ IsAnswered known words taken next (record before { ready = true }) why after
-IsAnswered known words taken (talks d next) before why after =
-    IsNotTalked known d before why after
+    × IsAnswered known words taken (next bytes) before slots why after)
+IsAnswered known words taken (refuses verdict) before slots why after =
+    ((why ≡ NoMemory) ⊎ ((why ≡ verdict) × IsVerdict verdict)) × IsSilent before after × (slots ≡ [])
+IsAnswered known words taken (places word set next) before [] why after =
+    IsNotPlaced word set why × IsSilent before after
+IsAnswered known words taken (places word set next) before (chosen ∷ rest) why after =
+    IsPlacement set.stash set.bins set.candidates chosen
+    × IsAnswered known words taken (next chosen) before rest why after
+IsAnswered known words taken (opens next) before slots why after =
+    (((why ≡ LinkFault) ⊎ (why ≡ NoMemory)) × IsSilent before after × (slots ≡ []))
+    ⊎ IsAnswered known words taken next (record before { ready = true }) slots why after
+IsAnswered known words taken (talks d next) before slots why after =
+    (IsNotTalked known d before why after × (slots ≡ []))
     ⊎ ((bytes : List ℕ) × WereTaken known before.incoming bytes × ReadSo d before.incoming bytes (good bytes)
-    × IsAnswered known words true (next bytes) (talked before (d.owes bytes) bytes) why after)
-IsAnswered known words taken (ends wire effects) before why after =
-    IsOfEnd taken why effects × IsSilent before after × IsHungry taken before why after
+    × IsAnswered known words true (next bytes) (talked before (d.owes bytes) bytes) slots why after)
+IsAnswered known words taken (ends wire effects) before slots why after =
+    IsOfEnd taken why effects × IsSilent before after × IsHungry taken before why after × (slots ≡ [])
 
--- the same of a command
-abbrev pub IsOfCommand : Known → List (List ℕ) → Outside → Status → Outside → Type 0
-IsOfCommand known words before why after =
+-- the same of a command, with the placements that its outcome carries
+abbrev pub IsOfCommand : Known → List (List ℕ) → Outside → End → Type 0
+IsOfCommand known words before end =
     (command : Command) → bad_word words ≡ None → command_of words ≡ Some command
-    → IsAnswered known words false (tree_of command words) before why after
+    → IsAnswered known words false (tree_of command words) before end.placed end.status end.left
 
 -- ---- refusals, where the files and the incoming bytes are told
 

@@ -1,5 +1,5 @@
 -- What callers read of `send`, in its own words.
-use Rattle.std.specs.Prelude.{◌≡◌, true, ◌<◌, ◌≤◌, ◌⊎◌, ℕ, List, ◌++◌, length, Some, None, Err}
+use Rattle.std.specs.Prelude.{◌≡◌, true, ◌<◌, ◌≤◌, ◌⊎◌, ℕ, List, [], ◌++◌, length, Some, None, Err}
 use Rattle.psi_spec.specs.DealFiles.{sender_bytes}
 use Rattle.psi_spec.specs.Deals.{SenderDeal, IsSenderDeal}
 use Rattle.psi_spec.specs.Items.{first_bad}
@@ -77,10 +77,11 @@ SendAnswers known words before NoMemory after =
     (λ ys deal. Talks known (sender_dialogue deal ys) (opened before) (Err peer.NoMemory) after))
 SendAnswers known words before _ after = ⊥
 
--- the same of a run
+-- the same of a run, whose outcome has no placement
 abbrev pub IsOfSend : Known → List (List ℕ) → Outside → End → Type 0
 IsOfSend known words before end =
-    bad_word words ≡ None → command_of words ≡ Some Send → SendAnswers known words before end.status end.left
+    bad_word words ≡ None → command_of words ≡ Some Send
+    → SendAnswers known words before end.status end.left × (end.placed ≡ [])
 
 -- both files are there, of a list without a bad line and of a sender's deal, and the peer's bytes begin with a
 -- receiver's stream for that deal

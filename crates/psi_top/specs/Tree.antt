@@ -1,5 +1,5 @@
 -- A command as a tree of steps.
-use Rattle.std.specs.Prelude.{ℕ, List, ◌∷◌, [], Option, None, Result, Ok, Err}
+use Rattle.std.specs.Prelude.{ℕ, List, ◌∷◌, [], Option, Some, None, Result, Ok, Err}
 use Rattle.psi_spec.specs.Placement.{Slot}
 use Rattle.psi_base.specs.Outside.{Outside}
 use Rattle.psi_frames.specs.Dialogue.{Dialogue}
@@ -52,9 +52,18 @@ stopped status after = record { status = status; placed = []; wire = None; left 
 abbrev pub with_slots : List Slot → End → End
 with_slots slots end = record end { placed = slots ∷ end.placed }
 
+-- the placement that an outcome carries, if it carries one
+abbrev pub slots_within : Option (List Slot) → List (List Slot)
+slots_within None = []
+slots_within (Some slots) = slots ∷ []
+
+abbrev pub placements_of : Outcome → List (List Slot)
+placements_of outcome = slots_within outcome.placement
+
 -- how a run with this outcome ended
 abbrev pub ended : Outcome → Outside → End
-ended outcome after = stopped outcome.status after
+ended outcome after =
+    record { status = outcome.status; placed = placements_of outcome; wire = None; left = after }
 
 -- how a run ended that has this outcome, or was refused before it had one
 abbrev pub end_of : Result Outcome Status → Outside → End

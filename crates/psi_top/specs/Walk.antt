@@ -131,14 +131,28 @@ StepsOpen known words before (Ok _) after =
     (next : Tree) (end : End) → Runs known words next after end → Runs known words (opens next) before end
 StepsOpen known words before (Err why) after = (next : Tree) → Runs known words (opens next) before (stopped why after)
 
--- what a step may answer and leave that runs a session: with all memory taken the run goes on, whatever the bytes that
--- were taken
-abbrev pub StepsTalk : Known → List (List ℕ) → Dialogue → Outside → Result (Unit {0}) Status → Outside → Type 0
-StepsTalk known words d before (Ok _) after =
-    (next : List ℕ → Tree) (end : End) → ((taken : List ℕ) → Follows known words true (next taken) after end)
-    → Runs known words (talks d next) before end
-StepsTalk known words d before (Err why) after =
+-- what a step may answer and leave that runs a session: with all memory taken the run goes on from the bytes that were
+-- taken, of which a fact is known
+abbrev pub StepsTalk : Known → List (List ℕ) → Dialogue → (List ℕ → Type 0) → Outside → Result (Unit {0}) Status
+    → Outside → Type 0
+StepsTalk known words d Told before (Ok _) after =
+    (taken : List ℕ) × Told taken
+    × ((next : List ℕ → Tree) (end : End) → Follows known words true (next taken) after end
+    → Runs known words (talks d next) before end)
+StepsTalk known words d Told before (Err why) after =
     (next : List ℕ → Tree) → Runs known words (talks d next) before (stopped why after)
+
+-- the statuses of a set that was not placed
+abbrev pub IsNotPlaced : ℕ → Placing → Status → Type 0
+IsNotPlaced word set (status.NoPlacement place items touched) =
+    (place ≡ word) × IsCrowded set.stash set.candidates items × (touched ≡ touched_by set.candidates items)
+IsNotPlaced word set status.NoMemory = Unit {0}
+IsNotPlaced word set _ = ⊥
+
+-- what a step may answer that places the set of a word: slots, or why it has none
+abbrev pub Places : ℕ → Placing → Result (List Slot) Status → Type 0
+Places word set (Ok slots) = IsPlacement set.stash set.bins set.candidates slots
+Places word set (Err why) = IsNotPlaced word set why
 
 -- what a step may answer and leave that prints a text or writes a file
 abbrev pub Makes : Known → List (List ℕ) → Bool → Effect → Outside → Result (Unit {0}) Status → Outside → Type 0
@@ -154,3 +168,8 @@ abbrev pub Settles : {A : Type 0} → Result A Status → Result A Status → Ty
 Settles due (Ok x) = due ≡ Ok x
 Settles due (Err status.NoMemory) = Unit {0}
 Settles due (Err why) = (due ≡ Err why) × IsVerdict why
+
+-- the status of a command that has nothing to answer but its end
+abbrev pub status_of : Result (Unit {0}) Status → Status
+status_of (Ok _) = status.Done
+status_of (Err why) = why

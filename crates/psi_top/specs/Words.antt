@@ -109,12 +109,17 @@ deal_forms = record {
 abbrev pub send_forms : Forms
 send_forms = record { needed = alone is_name ∷ alone is_name ∷ alone is_name ∷ []; optional = [] }
 
+-- the forms of `receive`: the address, the receiver's file, the receiver's deal file, and the record, which is neither
+abbrev pub receive_forms : Forms
+receive_forms = record { needed = alone is_name ∷ alone is_name ∷ alone is_name ∷ is_output 2 4 ∷ []; optional = [] }
+
 -- the forms of the words after a command's name
 abbrev pub forms_of : List ℕ → Option Forms
 forms_of name =
     if bytes_eq name (codes "local") then Some local_forms
     else if bytes_eq name (codes "deal") then Some deal_forms
     else if bytes_eq name (codes "send") then Some send_forms
+    else if bytes_eq name (codes "receive") then Some receive_forms
     else None
 
 -- the least place from `at` on whose word is out of form or one too many, where each may be missing

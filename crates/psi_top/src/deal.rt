@@ -44,6 +44,7 @@ fn deal_steps<W: World>(alloc: Global, words: &Words, world: &mut W) -> Result<O
     write_word(words, 5, &sender, world)?;
     Ok(Outcome {
         status: Status::Done,
+        placement: None,
     })
 }
 

@@ -1,16 +1,17 @@
 // The top call.
-ghost use Rattle.std.specs.Prelude.{[]};
 ghost use Rattle.psi_top.specs.Words.{bad_word};
 ghost use Rattle.psi_top.specs.Commands.{Answers};
 ghost use Rattle.psi_top.specs.Deal.{DealWrites};
 ghost use Rattle.psi_top.specs.LocalPromises.{IsOfLocal, LocalShows};
 ghost use Rattle.psi_top.specs.Promises.{Completes, CountsBy, DoneLeaves, IsBadWords, IsDue, IsOfCommand, OnTold, RunsThrough, StandsAt};
+ghost use Rattle.psi_top.specs.ReceivePromises.{IsOfReceive, ReceiveFinds, ReceiveServes};
 ghost use Rattle.psi_top.specs.SendPromises.{IsOfSend, SendServes};
 ghost use Rattle.psi_top.specs.Tree.{ended};
 
 use crate::deal::deal_command;
 use crate::form::{Command, bad_word, named_command};
 use crate::local::local_command;
+use crate::receive::receive_command;
 use crate::send::send_command;
 use crate::status::{Outcome, Status};
 use psi_base::{Words, World};
@@ -23,14 +24,17 @@ fn answer<W: World>(alloc: Global, words: &Words, world: &mut W) -> Outcome
     if let Some(at) = bad_word(words) {
         return Outcome {
             status: Status::BadWords { at },
+            placement: None,
         };
     }
     match named_command(words) {
         Some(Command::Deal) => deal_command(alloc, words, world),
         Some(Command::Local) => local_command(alloc, words, world),
         Some(Command::Send) => send_command(alloc, words, world),
+        Some(Command::Receive) => receive_command(alloc, words, world),
         None => Outcome {
             status: Status::BadWords { at: 0 },
+            placement: None,
         },
     }
 }
@@ -47,22 +51,23 @@ pub fn run<W: World>(alloc: Global, words: &Words, world: &mut W) -> Outcome
     // but that of a missing file, and no other count changes.
     ensures counts { CountsBy words.now (W.outside world.old) result.status (W.outside world.new) (bad_word words.now) }
 
-    // In every world there are contents, each given by a read of the file of its word, for which the status follows,
-    // and what was sent and taken over the link.
-    ensures status { IsOfCommand W.known words.now (W.outside world.old) result.status (W.outside world.new) }
+    // In every world there are contents, each given by a read of the file of its word, and placements, which are those
+    // of the outcome, for which the status follows, and what was sent and taken over the link.
+    ensures status { IsOfCommand W.known words.now (W.outside world.old) (ended result (W.outside world.new)) }
 
     // Where the contents are told, each refusal comes only where it is due, in the order of the steps.
-    ensures exact { OnTold words.now (W.outside world.old) [] (IsDue result.status) }
+    ensures exact { OnTold words.now (W.outside world.old) (ended result (W.outside world.new)).placed
+        (IsDue result.status) }
 
     // Where no fault was counted or the world is steady, what is due is answered, or memory was wanting.
-    ensures complete { OnTold words.now (W.outside world.old) []
+    ensures complete { OnTold words.now (W.outside world.old) (ended result (W.outside world.new)).placed
         (Completes (W.outside world.old) result.status (W.outside world.new)) }
 
     // From valid files the run is done in such a world, or memory was wanting.
     ensures through { RunsThrough words.now (W.outside world.old) (ended result (W.outside world.new)) }
 
     // Nothing is printed or written before all is read; then each effect is whole, in part or not begun, in order.
-    ensures stands { OnTold words.now (W.outside world.old) []
+    ensures stands { OnTold words.now (W.outside world.old) (ended result (W.outside world.new)).placed
         (λ d contents. StandsAt words.now (W.outside world.old) result.status (W.outside world.new) (d contents)) }
 
     // What a run that is done read and left, in every world.
@@ -72,7 +77,7 @@ pub fn run<W: World>(alloc: Global, words: &Words, world: &mut W) -> Outcome
     ensures dealt { DealWrites words.now (W.outside world.old) (ended result (W.outside world.new)) }
 
     // What `local` may answer, in its own words: its files are judged in order, and then the size of the set.
-    ensures local { IsOfLocal W.known words.now (W.outside world.old) result.status }
+    ensures local { IsOfLocal W.known words.now (W.outside world.old) (ended result (W.outside world.new)) }
 
     // `local` prints every common item, and each other printed item shares its tag with a named sender item.
     ensures shown { LocalShows W.known words.now (W.outside world.old) (ended result (W.outside world.new)) }
@@ -84,6 +89,20 @@ pub fn run<W: World>(alloc: Global, words: &Words, world: &mut W) -> Outcome
     // From valid files and a peer whose bytes begin with a receiver's stream, `send` is done where no fault was counted
     // or the world is steady, or memory was wanting.
     ensures served { SendServes words.now (W.outside world.old) (ended result (W.outside world.new)) }
+
+    // What `receive` may answer, in its own words: its files are judged in order, then its items are placed, the link
+    // is opened and the session is run. Where it is done it took a sender's stream and sent its own, printed the items
+    // that are hit in the lists that it took, a line each, and wrote the record of the session; the outcome carries
+    // the placement.
+    ensures receive { IsOfReceive W.known words.now (W.outside world.old) (ended result (W.outside world.new)) }
+
+    // From valid files, items that have a placement and a peer whose bytes begin with a sender's stream, `receive` is
+    // done where no fault was counted or the world is steady, or memory was wanting.
+    ensures received { ReceiveServes words.now (W.outside world.old) (ended result (W.outside world.new)) }
+
+    // For an honest peer, whatever its list, `receive` prints every common item, and each other printed item shares its
+    // tag with a named sender item.
+    ensures found { ReceiveFinds W.known words.now (W.outside world.old) (ended result (W.outside world.new)) }
 {
     answer(alloc, words, world)
 }

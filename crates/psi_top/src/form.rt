@@ -15,6 +15,8 @@ pub enum Command {
     Local,
     /// The sender's end of a session.
     Send,
+    /// The receiver's end of a session.
+    Receive,
 }
 
 /// The form that a word must have.
@@ -78,6 +80,15 @@ impl Command {
                 needed: &[Form::Name, Form::Name, Form::Name],
                 optional: &[],
             },
+            Command::Receive => CommandForms {
+                needed: &[
+                    Form::Name,
+                    Form::Name,
+                    Form::Name,
+                    Form::Output { from: 2, to: 4 },
+                ],
+                optional: &[],
+            },
         }
     }
 }
@@ -136,6 +147,8 @@ pub fn named_command(words: &Words) -> Option<Command>
         Some(Command::Deal)
     } else if name == "send" {
         Some(Command::Send)
+    } else if name == "receive" {
+        Some(Command::Receive)
     } else {
         None
     }

@@ -83,6 +83,7 @@ fn print_shown<W: World>(
     print_text(&text, world)?;
     Ok(Outcome {
         status: Status::Done,
+        placement: None,
     })
 }
 

@@ -24,7 +24,7 @@ fn serve<W: World>(
     requires ready { IsTrue (W.outside world.old).ready }
     requires deal { IsSenderDeal deal.now }
     ensures { (words : List (List ℕ)) →
-        StepsTalk W.known words (sender_dialogue deal.now items.now) (W.outside world.old) result
+        StepsTalk W.known words (sender_dialogue deal.now items.now) (λ taken. Unit {0}) (W.outside world.old) result
         (W.outside world.new) }
 {
     let mut core = SenderCore::new(alloc, items, deal);
@@ -45,6 +45,7 @@ fn send_steps<W: World>(alloc: Global, words: &Words, world: &mut W) -> Result<O
     serve(alloc, &items, &deal, world)?;
     Ok(Outcome {
         status: Status::Done,
+        placement: None,
     })
 }
 

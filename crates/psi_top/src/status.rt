@@ -6,6 +6,7 @@ ghost use Rattle.psi_top.specs.Tree.{end_of, ended};
 ghost use Rattle.psi_top.specs.declared.status.Status.TheVariants as status;
 
 use psi_base::{NoMemory, Places};
+use psi_cuckoo::Placement;
 use psi_deal::BadDeal;
 use psi_frames::BadFrame;
 use psi_items::BadItems;
@@ -31,7 +32,7 @@ pub enum Status {
         fault: BadDeal,
     },
     /// The set of the file that this word names has no placement: these items, by their places and rising, name only
-    /// `touched` bins, and are more than these and the rows of the stash. No command places a set yet.
+    /// `touched` bins, and are more than these and the rows of the stash.
     NoPlacement {
         word: u8,
         items: Places,
@@ -66,10 +67,13 @@ pub enum Status {
 }
 
 /// All that a run answers.
-#[derive(Debug, Drop, PartialEq, Eq)]
+#[derive(Drop)]
 pub struct Outcome {
     /// How it ended.
     pub status: Status,
+    /// The placement of the receiver's set, where the command placed it: None in any other command, and where the set
+    /// was not placed.
+    pub placement: Option<Placement>,
 }
 
 impl From<AllocError> for Status {
@@ -94,7 +98,10 @@ pub fn outcome_of(answer: Result<Outcome, Status>) -> Outcome
 {
     match answer {
         Ok(outcome) => outcome,
-        Err(status) => Outcome { status },
+        Err(status) => Outcome {
+            status,
+            placement: None,
+        },
     }
 }
 

@@ -1,17 +1,17 @@
 // The steps of the commands.
 ghost use Rattle.std.specs.Prelude.{◌≡◌, ◌≤◌, Bool, List, ℕ, IfOk, IsTrue, OnOk, length};
-ghost use Rattle.psi_spec.specs.Deals.{IsSenderDeal};
+ghost use Rattle.psi_spec.specs.Deals.{IsReceiverDeal, IsSenderDeal};
 ghost use Rattle.psi_spec.specs.Frames.{AreBytes};
 ghost use Rattle.psi_spec.specs.Limits.{file_limit};
 ghost use Rattle.psi_base.specs.Outside.{as_list};
-ghost use Rattle.psi_top.specs.Files.{items_in, reads_items, reads_sender, sender_in};
+ghost use Rattle.psi_top.specs.Files.{items_in, reads_items, reads_receiver, reads_sender, receiver_in, sender_in};
 ghost use Rattle.psi_top.specs.Tree.{puts, says};
-ghost use Rattle.psi_top.specs.Walk.{Makes, Settles, Steps, StepsOpen, StepsRead, talk_status};
+ghost use Rattle.psi_top.specs.Walk.{Makes, Settles, Steps, StepsOpen, StepsRead, status_of, talk_status};
 
 use crate::form::word_at;
 use crate::status::Status;
 use psi_base::{FILE_LIMIT, Fault, ReadFault, Side, Words, World, print_all};
-use psi_deal::{BadDeal, SenderDeal, read_sender};
+use psi_deal::{BadDeal, ReceiverDeal, SenderDeal, read_receiver, read_sender};
 use psi_frames::EndFault;
 use psi_items::{BadItems, Items};
 use std::alloc::Global;
@@ -96,6 +96,37 @@ pub fn read_sender_deal<W: World>(
     }
 }
 
+// The receiver's deal of the file of a word.
+#[tactic(auto, unfolding(crate::specs::Files::receiver_in))]
+fn judge_receiver(alloc: Global, word: u8, bytes: &[u8]) -> Result<ReceiverDeal, Status>
+    requires { length bytes.now ≤ file_limit }
+    ensures settles { Settles (receiver_in word bytes.now) result }
+    ensures are_bytes { AreBytes bytes.now }
+    ensures deal { IfOk result IsReceiverDeal }
+{
+    match read_receiver(alloc, bytes) {
+        Ok(deal) => Ok(deal),
+        Err(BadDeal::NoMemory) => Err(Status::NoMemory),
+        Err(fault) => Err(Status::BadDeal { word, fault }),
+    }
+}
+
+/// Reads the receiver's deal file that the word at this place names.
+pub fn read_receiver_deal<W: World>(
+    alloc: Global,
+    words: &Words,
+    word: u8,
+    world: &mut W,
+) -> Result<ReceiverDeal, Status>
+    ensures steps { Steps W.known words.now (reads_receiver word) (W.outside world.old) result (W.outside world.new) }
+    ensures deal { IfOk result IsReceiverDeal }
+{
+    match read_bytes(alloc, words, word, FILE_LIMIT, world) {
+        Ok(bytes) => judge_receiver(alloc, word, &bytes),
+        Err(status) => Err(status),
+    }
+}
+
 /// Opens the link at the address that the word at this place names.
 pub fn open_link<W: World>(words: &Words, word: u8, side: Side, world: &mut W) -> Result<(), Status>
     ensures steps { StepsOpen W.known words.now (W.outside world.old) result (W.outside world.new) }
@@ -147,5 +178,15 @@ pub fn write_word<W: World>(
         Ok(()) => Ok(()),
         Err(Fault::Failed) => Err(Status::FileFault { word }),
         Err(Fault::NoMemory) => Err(Status::NoMemory),
+    }
+}
+
+/// The status of what is left of a command.
+pub fn status(rest: Result<(), Status>) -> Status
+    ensures { result ≡ status_of rest }
+{
+    match rest {
+        Ok(()) => Status::Done,
+        Err(status) => status,
     }
 }

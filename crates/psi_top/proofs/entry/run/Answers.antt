@@ -1,7 +1,9 @@
 use Rattle.psi_top.specs.Tree.{ended}
 use Rattle.psi_top.proofs.Laws.{answers_bad_words, answers_complete, answers_counted, answers_done, answers_exact, answers_of_command, answers_stand, answers_through}
 use Rattle.psi_top.proofs.DealLaws.{answers_dealt}
+use Rattle.psi_top.proofs.HonestLaws.{answers_found}
 use Rattle.psi_top.proofs.LocalLaws.{answers_local, answers_shown}
+use Rattle.psi_top.proofs.ReceiveLaws.{answers_receive, answers_received}
 use Rattle.psi_top.proofs.SendLaws.{answers_send, answers_serve}
 use Rattle.psi_top.proofs.entry.run.Goals as goal
 
@@ -56,3 +58,15 @@ returns-clause-send g c =
 pub returns-clause-served : goal.returns-clause-served
 returns-clause-served g c =
     answers_serve g.W.World.known c.args.words.now (g.W.World.outside c.args.world.now) (ended c.answer.result (g.W.World.outside c.answer.new.world)) c.answer.ensures
+
+pub returns-clause-receive : goal.returns-clause-receive
+returns-clause-receive g c =
+    answers_receive g.W.World.known c.args.words.now (g.W.World.outside c.args.world.now) (ended c.answer.result (g.W.World.outside c.answer.new.world)) c.answer.ensures
+
+pub returns-clause-received : goal.returns-clause-received
+returns-clause-received g c =
+    answers_received g.W.World.known c.args.words.now (g.W.World.outside c.args.world.now) (ended c.answer.result (g.W.World.outside c.answer.new.world)) c.answer.ensures
+
+pub returns-clause-found : goal.returns-clause-found
+returns-clause-found g c =
+    answers_found g.W.World.known c.args.words.now (g.W.World.outside c.args.world.now) (ended c.answer.result (g.W.World.outside c.answer.new.world)) c.answer.ensures

@@ -1,0 +1,71 @@
+// The placement of the receiver's items.
+ghost use Rattle.std.specs.Prelude.{◌≡◌, ◌≤◌, IfOk, length, map};
+ghost use Rattle.psi_spec.specs.Formulas.{item_digest};
+ghost use Rattle.psi_spec.specs.Limits.{bins_for};
+ghost use Rattle.psi_spec.specs.Placement.{IsPlacementOf};
+ghost use Rattle.psi_top.specs.Receive.{digest_candidates, placing_of};
+ghost use Rattle.psi_top.specs.Walk.{Places};
+
+use crate::status::Status;
+use psi_base::{NoMemory, bins};
+use psi_cuckoo::{NoFit, Placement, place};
+use psi_deal::ReceiverDeal;
+use psi_items::{Items, digest};
+use psi_oprf::candidates;
+use std::alloc::Global;
+
+/// The digests of the items, in their order.
+pub fn item_digests(alloc: Global, items: &Items) -> Result<Vec<[u8; 32]>, NoMemory>
+    ensures { IfOk result (λ digests. digests.items ≡ map item_digest items.now) }
+{
+    let mut digests = Vec::with_capacity(alloc, items.len() as usize)?;
+    let mut place = 0;
+    while let Some(item) = items.get(place) {
+        digests.push(digest(item))?;
+        place += 1;
+    }
+    Ok(digests)
+}
+
+// The candidates of the items with these digests.
+fn item_candidates(
+    alloc: Global,
+    key: &[u8; 16],
+    bins: u32,
+    digests: &[[u8; 32]],
+) -> Result<Vec<[u32; 3]>, NoMemory>
+    requires { 1 ≤ bins }
+    ensures { IfOk result (λ made. made.items ≡ map (digest_candidates key.now bins) digests.now) }
+{
+    let mut made = Vec::with_capacity(alloc, digests.len())?;
+    for i in 0..digests.len() {
+        made.push(candidates(key, &digests[i], bins))?;
+    }
+    Ok(made)
+}
+
+/// Places the items of the file that this word names, which have these digests.
+pub fn place_items(
+    alloc: Global,
+    word: u8,
+    items: &Items,
+    digests: &[[u8; 32]],
+    deal: &ReceiverDeal,
+) -> Result<Placement, Status>
+    requires { digests.now ≡ map item_digest items.now }
+    ensures places { Places word (placing_of deal.now items.now) result }
+    ensures placed { IfOk result
+        (IsPlacementOf deal.now.stash deal.now.key (bins_for (length items.now)) items.now) }
+{
+    let bin_count = bins(items.len());
+    let candidates = item_candidates(alloc, deal.key(), bin_count, digests)?;
+    match place(alloc, &candidates, bin_count, deal.stash()) {
+        Ok(placement) => Ok(placement),
+        Err(NoFit::Crowded { items, touched }) => Err(Status::NoPlacement {
+            word,
+            items,
+            touched,
+        }),
+        Err(NoFit::NoMemory) => Err(Status::NoMemory),
+    }
+}
