@@ -10,6 +10,8 @@ mod meetings;
 #[cfg(test)]
 mod printing;
 #[cfg(test)]
+mod receiving;
+#[cfg(test)]
 mod refusals;
 #[cfg(test)]
 mod runs;
