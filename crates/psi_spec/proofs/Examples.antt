@@ -1,5 +1,10 @@
--- Worked examples: the sizes of streams, the frames of a list, a sort, and the order of a session's bytes.
+-- Worked examples: the sizes of streams, the frames of a list, a sort, a change of columns, and the order of a session's
+-- bytes.
 use Rattle.std.proofs.Common.{◌≡◌, ◌++◌, ℕ, List, [], ◌∷◌, length, replicate, take, refl}
+use Rattle.psi_spec.specs.Bits.{packed}
+use Rattle.psi_spec.specs.Columns.{row_of}
+use Rattle.psi_spec.specs.ColumnSets.{ColumnSets, masked_columns, chosen_columns}
+use Rattle.psi_spec.specs.Changes.{change, columns_file}
 use Rattle.psi_spec.specs.Rising.{rising}
 use Rattle.psi_spec.specs.Streams.{list_frames, IsReceiverStream, IsSenderStream}
 use Rattle.psi_spec.specs.Sessions.{weave}
@@ -79,3 +84,33 @@ woven_is :
     ≡ replicate 34 1 ++ replicate 34 2 ++ 7 ∷ 8 ∷ [] ++ 9 ∷ [] ++ replicate 5 3
 unfolding weave
 woven_is = refl
+
+-- ---- a change: two columns of two rows, at the choice 1, 0
+
+sets : ColumnSets
+sets = record { zeros = (1 ∷ []) ∷ (2 ∷ []) ∷ []; ones = (0 ∷ []) ∷ (3 ∷ []) ∷ [] }
+
+words : List (List ℕ)
+words = (1 ∷ []) ∷ (0 ∷ []) ∷ []
+
+others : List (List ℕ)
+others = (0 ∷ []) ∷ (3 ∷ []) ∷ []
+
+-- the words differ in bit 0 of both rows and in bit 1 of row 1: the zero column 0 and the one column 1 change
+changed_is : columns_file (change (1 ∷ []) words others sets) ≡ 2 ∷ 0 ∷ 2 ∷ 1 ∷ []
+unfolding sets words others change columns_file row_of packed
+changed_is = refl
+
+-- what is chosen stays
+chosen_is : chosen_columns (1 ∷ []) (change (1 ∷ []) words others sets) ≡ (0 ∷ []) ∷ (2 ∷ []) ∷ []
+unfolding sets words others change chosen_columns row_of packed
+chosen_is = refl
+
+-- and so is what is sent
+sent_is : masked_columns words sets ≡ (0 ∷ []) ∷ (1 ∷ []) ∷ []
+unfolding sets words masked_columns row_of packed
+sent_is = refl
+
+others_sent_is : masked_columns others (change (1 ∷ []) words others sets) ≡ (0 ∷ []) ∷ (1 ∷ []) ∷ []
+unfolding sets words others change masked_columns row_of packed
+others_sent_is = refl

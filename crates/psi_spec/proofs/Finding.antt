@@ -12,7 +12,7 @@ use Rattle.psi_spec.specs.Columns.{row_of}
 use Rattle.psi_spec.specs.Matrices.{AreColumns}
 use Rattle.psi_spec.specs.ColumnSets.{ColumnSets, AreColumnSets, masked_columns, chosen_columns}
 use Rattle.psi_spec.specs.Deals.{ReceiverDeal, SenderDeal, ArePair, zero_columns, one_columns, sender_columns}
-use Rattle.psi_spec.specs.Placement.{Slot, MayHave, candidates_of}
+use Rattle.psi_spec.specs.Placement.{Slot, IsPlacementOf, MayHave, candidates_of}
 use Rattle.psi_spec.specs.Meeting.{Placed, placed_of, row_word, Setup, IsSetup, own_tag, peer_tag, peer_row, meets, is_shown, shown}
 use Rattle.psi_spec.specs.Rising.{rising}
 use Rattle.psi_spec.specs.TagLists.{SenderSide, opened_row, sent_tag, tag_in_list, tag_list, tag_lists}
@@ -218,3 +218,27 @@ pairs_find_shown receiver sender xs ys slots pair seeds choice placement =
           ap (hit_items side) (read_lists receiver sender (length xs) sent ys count lists pair few short reads) ∙ hit;
       shows = shows_common receiver.stash setup ys is_setup;
     }
+
+-- of each of the receiver's items whether it is hit is whether it is shown
+pub pair_hit_is_shown : (receiver : ReceiverDeal) (sender : SenderDeal) (xs ys : List (List ℕ)) (slots : List Slot)
+    → ArePair receiver sender → length receiver.seeds ≡ 512 → length sender.choice ≡ 64
+    → IsPlacementOf receiver.stash receiver.key (bins_for (length xs)) xs slots
+    → (p : Placed) → Contains (placed_of xs slots) p
+    → is_hit (receiver_side receiver xs slots) (pair_lists receiver sender xs slots ys) p
+    ≡ is_shown (pair_setup receiver sender xs slots) ys p
+pair_hit_is_shown receiver sender xs ys slots pair seeds choice placement p within =
+    let setup : Setup = pair_setup receiver sender xs slots in
+    let rows : ℕ = rows_for receiver.stash (length xs) in
+    let ones : List (List ℕ) = one_columns receiver rows in
+    let sent : List (List ℕ) = dealt_masked receiver (placed_of xs slots) in
+    let side : ReceiverSide = receiver_side receiver xs slots in
+    let is_setup : IsSetup receiver.stash setup =
+    placed_setup receiver.stash receiver sender xs slots seeds choice placement in
+    let long : length xs ≡ length slots =
+    length-placement receiver.stash receiver.key (bins_for (length xs)) xs slots placement in
+    let are : AreColumnSets rows (dealt_sets receiver rows) = dealt_sets_are receiver rows seeds in
+    ap (λ (n : ℕ). is_hit side (tag_lists n (sender_side sender (length xs) sent) ys) p) (sym pair.stash)
+    ∙ (ap (λ (o : SenderSide). is_hit side (tag_lists receiver.stash o ys) p)
+    (sides_agree receiver sender xs slots pair long)
+    ∙ hit_is_shown receiver.stash setup ones is_setup (omega arith)
+    (are_columns rows (zero_columns receiver rows) are.zeros) (are_columns rows ones are.ones) ys p within)

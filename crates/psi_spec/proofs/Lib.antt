@@ -10,6 +10,7 @@ pub mod KeyStream
 pub mod CodeBytes
 pub mod Clean
 pub mod ColumnSets
+pub mod Hiding
 pub mod Dealing
 pub mod DealFiles
 pub mod Comparing

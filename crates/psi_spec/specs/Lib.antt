@@ -1,15 +1,18 @@
 pub mod Limits
 pub mod Bits
 pub mod Items
+pub mod MadeFiles
 pub mod Formulas
 pub mod Columns
 pub mod Matrices
 pub mod ColumnSets
+pub mod Changes
 pub mod Deals
 pub mod DealFiles
 pub mod Placement
 pub mod CrowdedLists
 pub mod Meeting
+pub mod Collisions
 pub mod Frames
 pub mod Rising
 pub mod TagLists
@@ -18,5 +21,7 @@ pub mod Hits
 pub mod Sessions
 pub mod Records
 pub mod Texts
+pub mod Differing
 pub mod Laws
 pub mod SessionLaws
+pub mod HidingLaws

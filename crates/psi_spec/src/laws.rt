@@ -15,6 +15,7 @@ ghost use Rattle.psi_spec.specs.Laws.{
   StashShowsCommon,
   CrowdedExcludesPlacement,
 };
+ghost use Rattle.psi_spec.specs.HidingLaws.{ChangesBits, SetsAreHidden, StreamsAreOver};
 ghost use Rattle.psi_spec.specs.SessionLaws.{
   OrderIsHidden,
   SessionsHideOrder,
@@ -112,4 +113,18 @@ pub fn streams_have_sizes()
 pub fn finds_shown()
     ensures setups { SetupsHitShown }
     ensures pairs { PairsFindShown }
+{}
+
+/// What a change of column sets does to each bit.
+pub fn changes_bits()
+    ensures { ChangesBits }
+{}
+
+/// A receiver's columns hide which of the placed sets of one count it has, over arbitrary column sets: the change of the
+/// columns that the sender did not choose is its own inverse, keeps those that it chose, and gives another placed set
+/// the same stream, so that every sender answers it alike; and whatever columns a sender has and gets, they come from
+/// each placed set over just one pair of column sets. A sender's stream is that over its own columns.
+pub fn sets_are_hidden()
+    ensures hidden { SetsAreHidden }
+    ensures over { StreamsAreOver }
 {}
