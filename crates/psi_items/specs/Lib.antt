@@ -1,2 +1,4 @@
 pub mod Members
 pub mod Reading
+pub mod Making
+pub mod Made

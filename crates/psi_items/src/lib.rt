@@ -6,9 +6,11 @@ mod hashing;
 mod items;
 pub mod laws;
 mod lines;
+mod making;
 #[cfg(test)]
 mod tests;
 
 pub use errors::BadItems;
 pub use hashing::digest;
 pub use items::Items;
+pub use making::{MadeFile, make_file};

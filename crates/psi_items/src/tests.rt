@@ -169,3 +169,13 @@ fn digests_as_published(rt: HostRuntime) {
     ];
     assert_eq!(rt; digest(b"b"), expected);
 }
+
+#[test]
+fn makes_files(rt: HostRuntime) -> Result<(), Fail> {
+    let first = make_file(rt.alloc(), MadeFile::First, 3, 1, 7)?;
+    assert_eq!(rt; first.as_slice(), b"s7-0\nx7-1\nx7-2\n".as_slice());
+    let second = make_file(rt.alloc(), MadeFile::Second, 3, 1, 7)?;
+    assert_eq!(rt; second.as_slice(), b"y7-2\ny7-1\ns7-0\n".as_slice());
+    assert!(rt; make_file(rt.alloc(), MadeFile::Second, 0, 0, 7)?.is_empty());
+    Ok(())
+}
