@@ -1,0 +1,12 @@
+// The words of message schedules.
+ghost use Rattle.std.specs.Prelude.{◌≡◌, length};
+
+use std::simd::u32x4;
+
+/// A word of the message schedule of each of four blocks. It is a struct of its own so that an
+/// `EndBlock` can hold an array of them.
+#[derive(Clone, Copy)]
+pub(crate) struct ScheduleWord {
+    pub(crate) lanes: u32x4,
+    ghost four: { length lanes ≡ 4 },
+}
