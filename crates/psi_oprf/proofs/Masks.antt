@@ -22,22 +22,6 @@ bit_of-masked a0 a1 words c j l m =
     let code = bit_of-row_of words c j in
     omega arith
 
--- ---- a column that is changed twice
-
-pub changed_twice : (old mid new : Matrix) (c : ℕ) (x y : List ℕ) → c < length old.columns → c < length mid.columns
-    → mid ≡ with_column old c (xor (column_of old c) x) → new ≡ with_column mid c (xor (column_of mid c) y) → column_of new c ≡ xor (xor (column_of old c) x) y
-changed_twice old mid new c x y l m first second =
-    ap (λ (a : Matrix). column_of a c) second
-    ∙ (get_or-set_same mid.columns c (xor (column_of mid c) y) [] m
-    ∙ ap (λ (column : List ℕ). xor column y) (ap (λ (a : Matrix). column_of a c) first ∙ get_or-set_same old.columns c (xor (column_of old c) x) [] l))
-
--- the other columns stay
-pub kept_twice : (old mid new : Matrix) (c k : ℕ) (x y : List ℕ) → k ≢ c → mid ≡ with_column old c x → new ≡ with_column mid c y → column_of new k ≡ column_of old k
-kept_twice old mid new c k x y ne first second =
-    ap (λ (a : Matrix). column_of a k) second
-    ∙ (get_or-set_other mid.columns c k y [] ne
-    ∙ (ap (λ (a : Matrix). column_of a k) first ∙ get_or-set_other old.columns c k x [] ne))
-
 -- columns that are masked one by one
 pub all_masked : (words columns : List (List ℕ)) (sets : ColumnSets) → length columns ≡ 512 → length sets.zeros ≡ 512 → length sets.ones ≡ 512
     → ((k : ℕ) → k < 512 → get_or columns k [] ≡ xor (xor (row_of words k) (get_or sets.zeros k [])) (get_or sets.ones k [])) → columns ≡ masked_columns words sets

@@ -5,7 +5,18 @@ ghost use Rattle.psi_spec.specs.Columns.{column_bytes};
 ghost use Rattle.psi_spec.specs.Matrices.{IsClean, IsCleanMatrix, column_of, with_column};
 ghost use Rattle.psi_spec.specs.ColumnSets.{masked_columns};
 
-use psi_bits::{Columns, Rows, Word512, flip_back_plain};
+use psi_bits::{Columns, Rows, Word512};
+use psi_lanes::{flip_back, xor_bytes};
+
+// Changes bytes by those of two columns as long.
+fn xor_both(out: &mut [u8], zero: &[u8], one: &[u8])
+    requires zero { length zero.now ≡ length out.old }
+    requires one { length one.now ≡ length out.old }
+    ensures { out.new ≡ xor (xor out.old zero.now) one.now }
+{
+    xor_bytes(out, zero);
+    xor_bytes(out, one);
+}
 
 /// Makes `out` the columns that the receiver sends: bit j of column c is the exclusive or of that
 /// bit of `a0`, of that bit of `a1` and of bit c of row j of `codes`. All have the same number of
@@ -29,10 +40,9 @@ pub fn mask(a0: &Columns, a1: &Columns, codes: &Rows, out: &mut Columns)
         + bit_of (slice_index_or codes.now j []) c) % 2 }
     ensures clean { IsCleanMatrix out.new }
 {
-    flip_back_plain(codes, out);
+    flip_back(codes, out);
     for c in 0..512u16 {
-        out.xor_column(c, a0.column(c));
-        out.xor_column(c, a1.column(c));
+        xor_both(out.column_mut(c), a0.column(c), a1.column(c));
     }
 }
 
@@ -49,6 +59,6 @@ pub fn open_column(chosen: &mut Columns, choice: &Word512, c: u16, u: &[u8])
     ensures clean { IsCleanMatrix chosen.old → IsCleanMatrix chosen.new }
 {
     if choice.bit(c) {
-        chosen.xor_column(c, u);
+        xor_bytes(chosen.column_mut(c), u);
     }
 }

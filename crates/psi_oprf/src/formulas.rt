@@ -1,9 +1,9 @@
 // Codes and bins of item digests, and tags of words, over the SHA-256 of FIPS 180-4.
-ghost use Rattle.std.specs.Prelude.{◌≡◌, ◌≤◌, ◌<◌, ◌+◌, ◌-◌, ◌*◌, ◌%◌, ◌++◌, ◌∷◌, [], length, drop, take, codes, All};
-ghost use Rattle.std.specs.Int.{w64, from_be_bytes};
+ghost use Rattle.std.specs.Prelude.{◌≡◌, ◌≤◌, ◌<◌, ◌++◌, length, codes, All};
 ghost use Rattle.sha2.specs.Sha256.{sha256};
 ghost use Rattle.psi_spec.specs.Bits.{xor, both};
 ghost use Rattle.psi_spec.specs.Formulas.{bin, code as code_of, code_half, tag, padded_tag};
+ghost use Rattle.psi_oprf.specs.Candidates.{bin_in as bin_in_of, bins_in as bins_in_of, digest_candidates};
 
 use psi_bits::Word512;
 use sha2::{Digest, Sha256};
@@ -53,12 +53,26 @@ fn bin_in(hash: &[u8; 32], i: u8, bins: u32) -> u32
     requires bins { 1 ≤ bins }
     requires first { 1 ≤ i }
     requires last { i ≤ 3 }
-    ensures { result ≡ from_be_bytes w64 (take 8 (drop (8 * (i - 1)) hash.now)) % bins }
+    ensures bin { result ≡ bin_in_of bins i hash.now }
+    ensures below { result < bins }
 {
     let at = 8 * (usize::from(i) - 1);
     let mut number = [0; 8];
     number.copy_from_slice(&hash[at..at + 8]);
     (u64::from_be_bytes(number) % u64::from(bins)) as u32
+}
+
+/// The bins at index 1, 2 and 3, of so many bins, that a hash holds.
+pub(crate) fn bins_in(hash: &[u8; 32], bins: u32) -> [u32; 3]
+    requires { 1 ≤ bins }
+    ensures bins { result ≡ bins_in_of bins hash.now }
+    ensures below { All (λ candidate. candidate < bins) result }
+{
+    [
+        bin_in(hash, 1, bins),
+        bin_in(hash, 2, bins),
+        bin_in(hash, 3, bins),
+    ]
 }
 
 /// The bin at index `i`, from 1 to 3, of an item with this digest, under a key of 16 bytes: a number
@@ -79,16 +93,10 @@ pub fn bin_of(key: &[u8; 16], i: u8, digest: &[u8; 32], bins: u32) -> u32
 #[tactic(auto, unfolding(psi_spec::specs::Formulas::bin))]
 pub fn candidates(key: &[u8; 16], digest: &[u8; 32], bins: u32) -> [u32; 3]
     requires { 1 ≤ bins }
-    ensures bins { result ≡ bin key.now bins 1 digest.now ∷ bin key.now bins 2 digest.now
-        ∷ bin key.now bins 3 digest.now ∷ [] }
+    ensures bins { result ≡ digest_candidates key.now bins digest.now }
     ensures below { All (λ candidate. candidate < bins) result }
 {
-    let hash = bins_hash(key, digest);
-    [
-        bin_in(&hash, 1, bins),
-        bin_in(&hash, 2, bins),
-        bin_in(&hash, 3, bins),
-    ]
+    bins_in(&bins_hash(key, digest), bins)
 }
 
 /// Fills `out`, of 1 to 16 bytes, with the tag of that many bytes of a word at a row.

@@ -1,14 +1,21 @@
 //! The codes and bins of items, the tags of words, and the columns that hide codes. No call takes memory.
 #![tactic(auto)]
 
-mod batches;
+mod bin_batches;
+mod code_batches;
 mod columns;
 mod formulas;
+mod messages;
+mod tag_batches;
 
-pub use batches::{codes, codes_at, tags};
+pub use bin_batches::candidates_of;
+pub use code_batches::{codes, codes_at};
 pub use columns::{mask, open_column};
 pub use formulas::{Tag, bin_of, candidates, code, own_tag, peer_tag, tag_into};
 pub use psi_bits::Word512;
+pub use tag_batches::tags;
 
+#[cfg(test)]
+mod batch_tests;
 #[cfg(test)]
 mod tests;

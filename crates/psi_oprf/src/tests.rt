@@ -1,7 +1,5 @@
 //! Values that were computed by other programs.
-use crate::{
-    bin_of, candidates, code, codes, codes_at, mask, open_column, own_tag, peer_tag, tag_into, tags,
-};
+use crate::{bin_of, candidates, code, mask, open_column, own_tag, peer_tag, tag_into};
 use psi_base::NoMemory;
 use psi_bits::{Columns, Rows, Word512};
 
@@ -18,11 +16,6 @@ const DIGEST: [u8; 32] = [
 // The tag of row 5 and the zero word.
 const TAG: [u8; 16] = [
     0x38, 0x9f, 0x74, 0x64, 0x09, 0x95, 0xc5, 0xb1, 0xf6, 0xba, 0x0d, 0x27, 0xca, 0xc8, 0xf2, 0xc5,
-];
-
-// The tag of row 6 and the word of 64 ones.
-const NEXT_TAG: [u8; 16] = [
-    0x2e, 0xb8, 0xb1, 0x27, 0xb5, 0x13, 0xa9, 0x32, 0xd0, 0x0e, 0x0f, 0xce, 0xc5, 0x35, 0x58, 0xe5,
 ];
 
 #[test]
@@ -102,26 +95,4 @@ fn a_masked_column_is_opened(rt: HostRuntime) -> Result<(), NoMemory> {
     open_column(&mut a1, &word, 301, out.column(301));
     assert_eq!(rt; a1.column(301), [0x0f, 1].as_slice());
     Ok(())
-}
-
-#[test]
-fn batches_are_as_computed_elsewhere(rt: HostRuntime) {
-    let mut words = [Word512::zero(); 2];
-    codes(&KEY, 1, &[[0; 32], [1; 32]], &mut words);
-    let mut apart = [Word512::zero(); 2];
-    codes_at(&KEY, &[1, 0], &[[1; 32], DIGEST], &mut apart);
-    for (word, want) in [
-        (words[0], [0x82, 0xf1, 0x29, 0xd3, 0x7d, 0x8e, 0xf6, 0xeb]),
-        (words[1], [0x3f, 0x63, 0xa3, 0xf7, 0x4b, 0x03, 0xc7, 0x62]),
-        (apart[0], [0x3f, 0x63, 0xa3, 0xf7, 0x4b, 0x03, 0xc7, 0x62]),
-        (apart[1], [0x8f, 0x07, 0x12, 0x52, 0x45, 0xde, 0x14, 0x91]),
-    ] {
-        let bytes = word.to_bytes();
-        assert_eq!(rt; &bytes[..4], &want[..4]);
-        assert_eq!(rt; &bytes[32..36], &want[4..]);
-    }
-    let mut out = [[0; 16]; 2];
-    let words = [Word512::zero(), Word512::from_bytes(&[1; 64])];
-    tags(&KEY, 16, &[5, 6], &words, &mut out);
-    assert_eq!(rt; out, [TAG, NEXT_TAG]);
 }

@@ -1,42 +1,13 @@
-use Rattle.std.proofs.Common.{◌≡◌, ◌≢◌, ◌<◌, ◌∙◌, ℕ, List, length, sym, ap, ap₂, subst, arith, ⊎_elim}
-use Rattle.std.proofs.lemmas.Bool.{cases_eq}
-use Rattle.std.proofs.lemmas.List.{length-set}
+use Rattle.std.proofs.Common.{◌≡◌, ◌<◌, ◌∙◌, ℕ, List, length, sym, ap, subst, arith}
 use Rattle.psi_spec.specs.Bits.{bit_of, xor}
 use Rattle.psi_spec.specs.Columns.{column_bytes, row_of}
-use Rattle.psi_spec.specs.Matrices.{Matrix, column_of}
+use Rattle.psi_spec.specs.Matrices.{IsClean, column_of}
 use Rattle.psi_spec.specs.ColumnSets.{ColumnSets, masked_columns}
-use Rattle.psi_oprf.proofs.Masks.{masked_by, bit_of-masked, changed_twice, kept_twice, all_masked}
+use Rattle.psi_spec.proofs.Clean.{clean-row_of, clean-xor}
+use Rattle.psi_spec.proofs.ColumnSets.{length-row_of_words}
+use Rattle.psi_spec.proofs.Xor.{length-xor}
+use Rattle.psi_oprf.proofs.Masks.{masked_by, bit_of-masked, all_masked}
 use Rattle.psi_oprf.proofs.columns.mask.Goals as goal
-
-pub loop-c-preserved : goal.loop-c-preserved
-loop-c-preserved c =
-    let i = c.loop-c.c in
-    let old = c.loop-c.out in
-    let mid = c.xor_column.new.self in
-    let new = c.xor_column-in-loop-c.new.self in
-    let x = c.column.result.now in
-    let y = c.column-in-loop-c.result.now in
-    let first = c.xor_column.ensures.column in
-    let second = c.xor_column-in-loop-c.ensures.column in
-    let old_count : length old.columns ≡ 512 = c.xor_column.ensures.matrix.columns.count in
-    let mid_count : length mid.columns ≡ 512 = c.xor_column-in-loop-c.ensures.matrix.columns.count in
-    let here : column_of new i ≡ xor (xor (row_of c.args.codes.now i) (column_of c.args.a0.now i)) (column_of c.args.a1.now i) =
-    changed_twice old mid new i x y (omega arith) (omega arith) first second
-    ∙ (ap (λ (b : List ℕ). xor (xor b x) y) (c.loop-c.invariant.rest i (omega arith) (omega arith))
-    ∙ ap₂ (λ (b d : List ℕ). xor (xor (row_of c.args.codes.now i) b) d) c.column.ensures.bytes c.column-in-loop-c.ensures.bytes) in
-    record {
-      rows = ap (λ (m : Matrix). m.rows) second ∙ (ap (λ (m : Matrix). m.rows) first ∙ c.loop-c.invariant.rows);
-      done = λ k l.
-          ⊎_elim
-          (λ (e : k ≡ i). subst (λ (n : ℕ). column_of new n ≡ xor (xor (row_of c.args.codes.now n) (column_of c.args.a0.now n)) (column_of c.args.a1.now n)) (sym e) here)
-          (λ (ne : k ≢ i). kept_twice old mid new i k (xor (column_of old i) x) (xor (column_of mid i) y) ne first second ∙ c.loop-c.invariant.done k (omega arith))
-          (cases_eq k i);
-      rest = λ k l within. kept_twice old mid new i k (xor (column_of old i) x) (xor (column_of mid i) y) (omega arith) first second ∙ c.loop-c.invariant.rest k (omega arith) within;
-      clean = c.xor_column-in-loop-c.ensures.clean (c.xor_column.ensures.clean c.loop-c.invariant.clean);
-      count = λ _. ap (λ (m : Matrix). length m.columns) second ∙ (length-set mid.columns i (xor (column_of mid i) y) ∙ mid_count);
-      zero = λ _. c.column.ensures.matrix;
-      one = λ _. c.column-in-loop-c.ensures.matrix;
-    }
 
 pub returns-clause-columns : goal.returns-clause-columns
 returns-clause-columns c =
@@ -59,3 +30,24 @@ returns-clause-bits c k j l within =
     let other : length a1 ≡ column_bytes (length c.args.codes.now) = second.long k _ (omega (arith, second.count)) ∙ ap column_bytes (c.requires.a1 ∙ sym c.requires.codes) in
     ap (λ (column : List ℕ). bit_of column j) (c.loop-c.invariant.done k (omega arith) ∙ masked_by a0 a1 c.args.codes.now k)
     ∙ bit_of-masked a0 a1 c.args.codes.now k j long other
+
+pub returns-clause-clean : goal.returns-clause-clean
+returns-clause-clean c k l =
+    let rows = c.loop-c.out.rows in
+    let codes = c.args.codes.now in
+    let a0 : List ℕ = column_of c.args.a0.now k in
+    let a1 : List ℕ = column_of c.args.a1.now k in
+    let size : ℕ = column_bytes c.args.a0.now.rows in
+    let begun : 0 < c.loop-c.c = omega arith in
+    let first = (c.loop-c.invariant.zero begun).columns in
+    let second = (c.loop-c.invariant.one begun).columns in
+    let same : rows ≡ c.args.a0.now.rows = c.loop-c.invariant.rows ∙ c.requires.out in
+    let row : length (row_of codes k) ≡ size = length-row_of_words codes k ∙ ap column_bytes c.requires.codes in
+    let long : length a0 ≡ size = first.long k _ (omega (arith, first.count)) in
+    let other : length a1 ≡ size = second.long k _ (omega (arith, second.count)) ∙ ap column_bytes c.requires.a1 in
+    let zero : IsClean rows a0 = subst (λ (n : ℕ). IsClean n a0) (sym same) (c.requires.a0_clean k l) in
+    let one : IsClean rows a1 = subst (λ (n : ℕ). IsClean n a1) (sym (same ∙ sym c.requires.a1)) (c.requires.a1_clean k l) in
+    let code : IsClean rows (row_of codes k) = clean-row_of rows codes k (omega (arith, same, c.requires.codes)) in
+    subst (IsClean rows) (sym (c.loop-c.invariant.done k (omega arith)))
+    (clean-xor rows (xor (row_of codes k) a0) a1 (length-xor size (row_of codes k) a0 row long ∙ sym other)
+    (clean-xor rows (row_of codes k) a0 (row ∙ sym long) code zero) one)

@@ -3,7 +3,7 @@ use Rattle.std.specs.Simd.Lanes.{zip2}
 use Rattle.std.proofs.lemmas.List.{length-take-le, take_more, take_more_set}
 use Rattle.psi_spec.specs.Formulas.{code}
 use Rattle.psi_spec.proofs.Lists.{zip2-append}
-use Rattle.psi_oprf.proofs.batches.codes_at.Goals as goal
+use Rattle.psi_oprf.proofs.code_batches.codes_at_by_one.Goals as goal
 
 pub loop-i-preserved : goal.loop-i-preserved
 loop-i-preserved c =

@@ -1,7 +1,7 @@
 use Rattle.std.proofs.Common.{◌≡◌, take}
 use Rattle.std.specs.Simd.Lanes.{zip2}
 use Rattle.psi_spec.specs.Formulas.{code}
-use Rattle.psi_oprf.proofs.batches.codes_at.Given as goal
+use Rattle.psi_oprf.proofs.code_batches.codes_at_by_one.Given as goal
 
 -- the codes so far
 abbrev pub invariant-loop-i : goal.invariant-loop-i

@@ -1,0 +1,20 @@
+use Rattle.std.proofs.Common.{◌≡◌, ◌+◌, ◌*◌, [], ◌++◌, length, map, take, sym, ◌∙◌, ap, ap₂, arith}
+use Rattle.std.proofs.lemmas.List.{map-append}
+use Rattle.std.proofs.lemmas.Slice.{take-put_mid}
+use Rattle.psi_oprf.specs.Candidates.{digest_candidates}
+use Rattle.psi_oprf.proofs.Fours.{four_from, take_four}
+use Rattle.psi_oprf.proofs.bin_batches.candidates_by_four.Goals as goal
+
+pub loop-turn-preserved : goal.loop-turn-preserved
+loop-turn-preserved c =
+    let at = 4 * c.loop-turn.turn in
+    let next = 4 * (c.loop-turn.turn + 1) in
+    let digests = c.args.digests.now in
+    let out = c.loop-turn.out in
+    let formula = digest_candidates c.args.key.now c.args.bins in
+    let made = c.copy_from_slice.ensures.after ∙ c.four_candidates.ensures in
+    let four : length c.copy_from_slice.new.self ≡ 4 = ap length made in
+    let kept = c.loop-turn.auto.out in
+    take-put_mid at _ out c.copy_from_slice.new.self next (omega arith) (omega arith)
+    ∙ (ap₂ (λ x y. x ++ y) c.loop-turn.invariant made
+    ∙ sym (ap (map formula) (take_four digests at next [] (omega arith) (omega arith)) ∙ map-append formula (take at digests) (four_from digests at [])))

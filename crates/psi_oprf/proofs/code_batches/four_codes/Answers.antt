@@ -1,0 +1,19 @@
+use Rattle.std.proofs.Common.{[], ◌∷◌, ◌++◌, sym, ◌∙◌, ap₂, arith}
+use Rattle.std.specs.Simd.Lanes.{zip2}
+use Rattle.psi_spec.specs.Formulas.{code}
+use Rattle.psi_oprf.proofs.Fours.{four_elements}
+use Rattle.psi_oprf.proofs.code_batches.four_codes.Goals as goal
+
+pub returns : goal.returns
+unfolding code
+returns c =
+    let indices = c.args.indices.now in
+    let digests = c.args.digests.now in
+    let low = c.four_halves-low.ensures in
+    let high = c.four_halves-high.ensures in
+    let first = c.joined.ensures ∙ ap₂ (λ x y. x ++ y) (low 0 (omega arith)) (high 0 (omega arith)) in
+    let second = c.joined-2.ensures ∙ ap₂ (λ x y. x ++ y) (low 1 (omega arith)) (high 1 (omega arith)) in
+    let third = c.joined-3.ensures ∙ ap₂ (λ x y. x ++ y) (low 2 (omega arith)) (high 2 (omega arith)) in
+    let fourth = c.joined-4.ensures ∙ ap₂ (λ x y. x ++ y) (low 3 (omega arith)) (high 3 (omega arith)) in
+    (λ i. first i ∷ second i ∷ third i ∷ fourth i ∷ [])
+    ∙ ap₂ (zip2 (code c.args.key.now)) (sym (four_elements indices 0 c.told-indices)) (sym (four_elements digests [] c.told-digests))

@@ -1,0 +1,77 @@
+// The bins of many digests, four side by side.
+ghost use Rattle.std.specs.Prelude.{◌≡◌, ◌≤◌, ◌%◌, length, map};
+ghost use Rattle.psi_oprf.specs.Candidates.{digest_candidates};
+
+use crate::formulas::{bins_in, candidates};
+use crate::messages::{BINS_END, bins_block};
+use psi_lanes::EndBlock;
+
+// The bins of four digests.
+fn four_candidates(
+    key: &[u8; 16],
+    digests: &[[u8; 32]; 4],
+    bins: u32,
+    end: &EndBlock,
+) -> [[u32; 3]; 4]
+    requires bins { 1 ≤ bins }
+    requires end { end.now ≡ BINS_END }
+    ensures { result ≡ map (digest_candidates key.now bins) digests.now }
+{
+    let hashes = end.digests(&[
+        bins_block(key, &digests[0]),
+        bins_block(key, &digests[1]),
+        bins_block(key, &digests[2]),
+        bins_block(key, &digests[3]),
+    ]);
+    [
+        bins_in(&hashes[0], bins),
+        bins_in(&hashes[1], bins),
+        bins_in(&hashes[2], bins),
+        bins_in(&hashes[3], bins),
+    ]
+}
+
+// Fills `out` with the bins of digests, of which there are a multiple of four.
+fn candidates_by_four(key: &[u8; 16], digests: &[[u8; 32]], bins: u32, out: &mut [[u32; 3]])
+    requires bins { 1 ≤ bins }
+    requires as_many { length digests.now ≡ length out.old }
+    requires fours { length digests.now % 4 ≡ 0 }
+    ensures { out.new ≡ map (digest_candidates key.now bins) digests.now }
+{
+    let end = EndBlock::new(&BINS_END);
+    for turn in 0..digests.len() / 4 {
+        let at = 4 * turn;
+        let four = [
+            digests[at],
+            digests[at + 1],
+            digests[at + 2],
+            digests[at + 3],
+        ];
+        out[at..at + 4].copy_from_slice(&four_candidates(key, &four, bins, &end));
+    }
+}
+
+// Fills `out` with the bins of digests, one after another.
+fn candidates_by_one(key: &[u8; 16], digests: &[[u8; 32]], bins: u32, out: &mut [[u32; 3]])
+    requires bins { 1 ≤ bins }
+    requires as_many { length digests.now ≡ length out.old }
+    ensures { out.new ≡ map (digest_candidates key.now bins) digests.now }
+{
+    for i in 0..digests.len() {
+        out[i] = candidates(key, &digests[i], bins);
+    }
+}
+
+/// Fills `out` with the three bins of as many digests, under a key of 16 bytes: each is the answer
+/// of `candidates`. There is at least one bin.
+pub fn candidates_of(key: &[u8; 16], digests: &[[u8; 32]], bins: u32, out: &mut [[u32; 3]])
+    requires bins { 1 ≤ bins }
+    requires as_many { length digests.now ≡ length out.old }
+    ensures { out.new ≡ map (digest_candidates key.now bins) digests.now }
+{
+    let fours = digests.len() / 4 * 4;
+    let (digests, last_digests) = digests.split_at(fours);
+    let (out, last_out) = out.split_at_mut(fours);
+    candidates_by_four(key, digests, bins, out);
+    candidates_by_one(key, last_digests, bins, last_out);
+}

@@ -1,0 +1,88 @@
+// Tags over whole slices, four side by side.
+ghost use Rattle.std.specs.Prelude.{◌≡◌, ◌≤◌, ◌%◌, length, take};
+ghost use Rattle.std.specs.Simd.Lanes.{zip2};
+ghost use Rattle.psi_spec.specs.Formulas.{padded, padded_tag};
+
+use crate::formulas::{Tag, own_tag};
+use crate::messages::tag_blocks;
+use psi_bits::Word512;
+use psi_lanes::digests_of_two_blocks;
+
+// The tag of so many bytes that begins a digest.
+#[inline(always)]
+fn front(digest: &[u8; 32], width: u8) -> Tag
+    requires { width ≤ 16 }
+    ensures { result ≡ padded width (take width digest.now) }
+{
+    let mut tag = [0; 16];
+    let (bytes, _) = tag.split_at_mut(usize::from(width));
+    bytes.copy_from_slice(&digest[..usize::from(width)]);
+    tag
+}
+
+// The tags of four words at their rows.
+fn four_tags(key: &[u8; 16], width: u8, rows: &[u32; 4], words: &[Word512; 4]) -> [Tag; 4]
+    requires { width ≤ 16 }
+    ensures { result ≡ zip2 (padded_tag key.now width) rows.now words.now }
+{
+    let (first_a, second_a) = tag_blocks(key, rows[0], &words[0].to_bytes());
+    let (first_b, second_b) = tag_blocks(key, rows[1], &words[1].to_bytes());
+    let (first_c, second_c) = tag_blocks(key, rows[2], &words[2].to_bytes());
+    let (first_d, second_d) = tag_blocks(key, rows[3], &words[3].to_bytes());
+    let digests = digests_of_two_blocks(
+        &[first_a, first_b, first_c, first_d],
+        &[second_a, second_b, second_c, second_d],
+    );
+    [
+        front(&digests[0], width),
+        front(&digests[1], width),
+        front(&digests[2], width),
+        front(&digests[3], width),
+    ]
+}
+
+// Fills `out` with the tags of words, of which there are a multiple of four.
+fn tags_by_four(key: &[u8; 16], width: u8, rows: &[u32], words: &[Word512], out: &mut [Tag])
+    requires most { width ≤ 16 }
+    requires rows { length rows.now ≡ length out.old }
+    requires words { length words.now ≡ length out.old }
+    requires fours { length out.old % 4 ≡ 0 }
+    ensures { out.new ≡ zip2 (padded_tag key.now width) rows.now words.now }
+{
+    for turn in 0..out.len() / 4 {
+        let at = 4 * turn;
+        let four_rows = [rows[at], rows[at + 1], rows[at + 2], rows[at + 3]];
+        let four_words = [words[at], words[at + 1], words[at + 2], words[at + 3]];
+        out[at..at + 4].copy_from_slice(&four_tags(key, width, &four_rows, &four_words));
+    }
+}
+
+// Fills `out` with the tags of words, one after another.
+fn tags_by_one(key: &[u8; 16], width: u8, rows: &[u32], words: &[Word512], out: &mut [Tag])
+    requires least { 1 ≤ width }
+    requires most { width ≤ 16 }
+    requires rows { length rows.now ≡ length out.old }
+    requires words { length words.now ≡ length out.old }
+    ensures { out.new ≡ zip2 (padded_tag key.now width) rows.now words.now }
+{
+    for i in 0..out.len() {
+        out[i] = own_tag(key, width, rows[i], &words[i]);
+    }
+}
+
+/// Fills `out` with the tags, of `width` bytes from 1 to 16, of as many words at as many rows: each
+/// is the answer of `own_tag`.
+pub fn tags(key: &[u8; 16], width: u8, rows: &[u32], words: &[Word512], out: &mut [Tag])
+    requires least { 1 ≤ width }
+    requires most { width ≤ 16 }
+    requires rows { length rows.now ≡ length out.old }
+    requires words { length words.now ≡ length out.old }
+    ensures { out.new ≡ zip2 (padded_tag key.now width) rows.now words.now }
+{
+    let fours = out.len() / 4 * 4;
+    let (rows, last_rows) = rows.split_at(fours);
+    let (words, last_words) = words.split_at(fours);
+    let (out, last_out) = out.split_at_mut(fours);
+    tags_by_four(key, width, rows, words, out);
+    tags_by_one(key, width, last_rows, last_words, last_out);
+}
