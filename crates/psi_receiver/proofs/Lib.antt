@@ -12,7 +12,7 @@ mod Going
 mod Wires
 mod Within
 mod Kept
-mod Received
+pub mod Received
 mod Holding
 mod Taking
-mod Beginning
+pub mod Beginning

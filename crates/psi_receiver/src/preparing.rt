@@ -15,10 +15,11 @@ ghost use Rattle.psi_receiver.specs.Own.{AreOwnTags, AreUnmarked, marks_of};
 use crate::own::{OwnTags, own_tags};
 use crate::rows::row_words;
 use psi_base::{NoMemory, rows};
-use psi_bits::{Columns, Rows, flip_plain};
+use psi_bits::{Columns, Rows};
 use psi_cuckoo::Placement;
 use psi_deal::ReceiverDeal;
 use psi_items::Items;
+use psi_lanes::flip;
 use psi_oprf::mask;
 use std::alloc::Global;
 
@@ -49,7 +50,7 @@ fn masked(alloc: Global, deal: &ReceiverDeal, words: Rows) -> Result<(Rows, Colu
     mask(&zeros, &ones, &words, &mut sent);
     // The words are hidden now, and their room is free for the rows of the zero columns.
     let mut own = words;
-    flip_plain(&zeros, &mut own);
+    flip(&zeros, &mut own);
     Ok((own, sent))
 }
 

@@ -4,4 +4,4 @@ mod Coming
 mod Going
 pub mod Awaited
 pub mod Serving
-mod Within
+pub mod Within

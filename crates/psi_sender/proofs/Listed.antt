@@ -17,12 +17,13 @@ use Rattle.psi_spec.proofs.Padding.{padded-sent_tag, map-take-padded, padded_fro
 use Rattle.psi_spec.proofs.Placing.{bin-lt}
 use Rattle.psi_spec.proofs.Rising.{each-rising, rising_moves, IsSorted-rising}
 use Rattle.psi_sender.specs.declared.hashes.Hashes.{Hashes}
-use Rattle.psi_sender.specs.Hashed.{AreHashes, bins_of}
+use Rattle.psi_oprf.specs.Candidates.{digest_candidates}
+use Rattle.psi_sender.specs.Hashed.{AreHashes}
 use Rattle.psi_sender.specs.Answering.{AreFor, word_tag, bin_list, made_list}
 use Rattle.psi_sender.specs.Running.{side_over}
 use Rattle.psi_sender.proofs.Making.{zip2-maps, map_alike}
 
-pick : (key : List ℕ) (bins list : ℕ) (digest : List ℕ) → list < 3 → slice_index (bins_of key bins digest) list ≡ bin key bins (list + 1) digest
+pick : (key : List ℕ) (bins list : ℕ) (digest : List ℕ) → list < 3 → slice_index (digest_candidates key bins digest) list ≡ bin key bins (list + 1) digest
 pick key bins zero digest l = refl
 pick key bins (suc zero) digest l = refl
 pick key bins (suc (suc zero)) digest l = refl
@@ -40,7 +41,7 @@ module _ (deal : SenderDeal) (count : ℕ) (opened columns : List (List ℕ))
       ∙ sym (padded-sent_tag side index row y)
 
   in_bins : (list : ℕ) (y : List ℕ) → list < 3
-      → word_tag deal opened (slice_index (bins_of deal.key (bins_for count) (item_digest y)) list) (code deal.key (list + 1) (item_digest y))
+      → word_tag deal opened (slice_index (digest_candidates deal.key (bins_for count) (item_digest y)) list) (code deal.key (list + 1) (item_digest y))
       ≡ padded deal.tag_length (sent_tag side (list + 1) (bin deal.key (bins_for count) (list + 1) (item_digest y)) y)
   in_bins list y l =
       let digest = item_digest y in
@@ -55,7 +56,7 @@ module _ (deal : SenderDeal) (count : ℕ) (opened columns : List (List ℕ))
   made_by_case true ys list hashes e l h =
       let low : list < 3 = ltb-true list 3 e in
       let picked : List ℕ → ℕ = λ three. slice_index three list in
-      let binned = bins_of deal.key (bins_for count) in
+      let binned = digest_candidates deal.key (bins_for count) in
       let coded = code deal.key (list + 1) in
       ap₂ (λ (bins digests : List (List ℕ)). bin_list deal opened list bins digests) (h.candidates ∙ ap (map binned) h.digests) h.digests
       ∙ (ap₂ (zip2 (word_tag deal opened)) (ap (map picked) (map-map binned item_digest ys) ∙ map-map picked (λ y. binned (item_digest y)) ys) (map-map coded item_digest ys)
@@ -88,7 +89,7 @@ module _ (deal : SenderDeal) (count : ℕ) (opened columns : List (List ℕ))
 
 -- ---- what lists are made of serves for each of them
 
-bins_within : (key : List ℕ) (bins n : ℕ) (digest : List ℕ) → 0 < bins → bins ≤ n → All (λ row. row < n) (bins_of key bins digest)
+bins_within : (key : List ℕ) (bins n : ℕ) (digest : List ℕ) → 0 < bins → bins ≤ n → All (λ row. row < n) (digest_candidates key bins digest)
 bins_within key bins n digest some le zero d l = let h = bin-lt key bins 1 digest some in omega arith
 bins_within key bins n digest some le (suc zero) d l = let h = bin-lt key bins 2 digest some in omega arith
 bins_within key bins n digest some le (suc (suc zero)) d l = let h = bin-lt key bins 3 digest some in omega arith
@@ -101,10 +102,10 @@ hashes_serve deal count ys opened hashes bins list n h rows l same as_many =
     let digests : length hashes.digests.items ≡ n = ap length h.digests ∙ (length-map ys item_digest ∙ sym as_many) in
     record {
       digests = λ low. digests;
-      candidates = λ low. ap length h.candidates ∙ (length-map hashes.digests.items (bins_of deal.key (bins_for count)) ∙ digests);
+      candidates = λ low. ap length h.candidates ∙ (length-map hashes.digests.items (digest_candidates deal.key (bins_for count)) ∙ digests);
       within = λ low.
           subst (All (All few)) (sym h.candidates)
-          (All-map (All few) (bins_of deal.key (bins_for count)) hashes.digests.items
+          (All-map (All few) (digest_candidates deal.key (bins_for count)) hashes.digests.items
           (λ k d m. bins_within deal.key (bins_for count) (length opened) (get_or hashes.digests.items k d) (omega arith) (omega arith)));
       codes = λ high. ap length (h.codes (omega arith)) ∙ (length-map hashes.digests.items (code deal.key 0) ∙ digests);
       stash = λ high. omega arith;

@@ -1,13 +1,13 @@
 // What is hashed of each item once.
 ghost use Rattle.std.specs.Prelude.{◌≡◌, ◌≤◌, ◌<◌, ◌+◌, length, map, IfOk};
 ghost use Rattle.psi_spec.specs.Formulas.{item_digest};
-ghost use Rattle.psi_sender.specs.Hashed.{AreHashes, bins_of};
+ghost use Rattle.psi_sender.specs.Hashed.{AreHashes};
 
 use psi_base::NoMemory;
 use psi_bits::Word512;
 use psi_deal::SenderDeal;
 use psi_items::{Items, digest};
-use psi_oprf::{candidates, codes};
+use psi_oprf::{candidates_of, codes};
 use std::alloc::Global;
 
 /// What is hashed of each of the sender's items once, in their order.
@@ -33,17 +33,6 @@ fn put_digests(items: &Items, digests: &mut [[u8; 32]])
     }
 }
 
-// Makes each of `out`, of which there are as many as digests, the three of so many bins of its digest.
-fn put_bins(key: &[u8; 16], bins: u32, digests: &[[u8; 32]], out: &mut [[u32; 3]])
-    requires some { 1 ≤ bins }
-    requires as_many { length digests.now ≡ length out.old }
-    ensures { out.new ≡ map (bins_of key.now bins) digests.now }
-{
-    for i in 0..digests.len() {
-        out[i] = candidates(key, &digests[i], bins);
-    }
-}
-
 impl Hashes {
     /// The hashes of items for so many bins. It is refused only where memory is wanting.
     pub(crate) fn of(
@@ -61,7 +50,7 @@ impl Hashes {
         let mut three = vec![in alloc; [0; 3]; size]?;
         let mut stash_codes = vec![in alloc; Word512::zero(); stored]?;
         put_digests(items, &mut digests);
-        put_bins(deal.key(), bins, &digests, &mut three);
+        candidates_of(deal.key(), &digests, bins, &mut three);
         codes(deal.key(), 0, &digests[..stored], &mut stash_codes);
         Ok(Hashes {
             digests,

@@ -15,9 +15,9 @@ use crate::answer::{BLOCK_TAGS, make_list, put_block};
 use crate::memory::Memory;
 use crate::phase::{Phase, phase_after};
 use psi_base::bins;
-use psi_bits::flip_plain;
 use psi_deal::SenderDeal;
 use psi_items::Items;
+use psi_lanes::flip;
 use psi_oprf::open_column;
 
 /// Opens a column by the masked one that came, and answers what comes next. After the last one the rows are those
@@ -45,7 +45,7 @@ pub(crate) fn open_next(
     if index < 511 {
         return Phase::Columns { next: index + 1 };
     }
-    flip_plain(&memory.columns, &mut memory.rows);
+    flip(&memory.columns, &mut memory.rows);
     if items.is_empty() {
         Phase::Done
     } else {
