@@ -1,0 +1,9 @@
+pub mod Filling
+pub mod Passing
+pub mod Moves
+pub mod Progress
+pub mod OnlyMoves
+pub mod ByTurns
+pub mod Taking
+pub mod WholeSession
+pub mod Exchanged

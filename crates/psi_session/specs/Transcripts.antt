@@ -1,0 +1,21 @@
+-- What takes down a session, and the lists that the receiver finds its items in.
+use Rattle.std.specs.Prelude.{ℕ, List, ◌++◌, length}
+use Rattle.psi_spec.specs.Deals.{ReceiverDeal, SenderDeal}
+use Rattle.psi_spec.specs.Meeting.{Placed}
+use Rattle.psi_spec.specs.Sessions.{dealt_masked}
+use Rattle.psi_spec.specs.Streams.{sender_side}
+use Rattle.psi_spec.specs.TagLists.{tag_lists}
+
+-- what a transcript keeps: what stands of it against one that it was before, once these bytes passed
+abbrev pub Hearing : Type 0 → Type 1
+Hearing Transcript = Transcript → List ℕ → Type 0
+
+-- what was kept goes on with these bytes
+abbrev pub HearsOn : {Transcript : Type 0} → Hearing Transcript → Hearing Transcript → List ℕ → Type 0
+HearsOn {Transcript} old new bytes =
+    (first : Transcript) (before : List ℕ) → old first before → new first (before ++ bytes)
+
+-- the lists of tags that the sender makes of the masked columns of a receiver's placed items
+abbrev pub lists_for : ReceiverDeal → SenderDeal → List Placed → List (List ℕ) → List (List (List ℕ))
+lists_for receiver sender placed ys =
+    tag_lists sender.stash (sender_side sender (length placed) (dealt_masked receiver placed)) ys
