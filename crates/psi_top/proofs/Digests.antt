@@ -7,8 +7,8 @@ use Rattle.psi_spec.specs.Formulas.{item_digest}
 use Rattle.psi_spec.specs.CrowdedLists.{IsCrowded, touched_by}
 use Rattle.psi_spec.specs.Placement.{IsPlacement, Slot, candidates_of}
 use Rattle.psi_spec.proofs.Placing.{bin-lt}
-use Rattle.psi_top.specs.Receive.{digest_candidates}
-use Rattle.psi_top.proofs.Compared.{StandsAt}
+use Rattle.psi_oprf.specs.Candidates.{digest_candidates}
+use Rattle.psi_top.proofs.Elements.{StandsAt}
 
 -- one more digest
 pub one_digest : (xs : List (List ℕ)) (i : ℕ) (x : List ℕ) (made new : List (List ℕ)) → StandsAt xs i x → made ≡ map item_digest (take i xs) → new ≡ made ++ item_digest x ∷ []

@@ -1,5 +1,5 @@
 -- What `receive` prints for an honest peer.
-use Rattle.std.proofs.Common.{◌≡◌, ◌≤◌, ℕ, List, length, map, Contains, sym, ap, subst}
+use Rattle.std.proofs.Common.{◌≡◌, ℕ, List, length, map, Contains, sym, ap, subst}
 use Rattle.psi_spec.specs.Deals.{ReceiverDeal, SenderDeal, IsReceiverDeal}
 use Rattle.psi_spec.specs.Hits.{hit_items, receiver_side}
 use Rattle.psi_spec.specs.Limits.{bins_for}

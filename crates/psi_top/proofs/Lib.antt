@@ -1,9 +1,9 @@
 pub mod Answered
-pub mod Compared
 pub mod Counted
 pub mod DealLaws
 pub mod DealWords
 pub mod Digests
+pub mod Elements
 pub mod Forms
 pub mod Heard
 pub mod HonestLaws
@@ -14,14 +14,14 @@ pub mod LocalLaws
 pub mod LocalWords
 pub mod Marks
 pub mod NamedWords
-pub mod Opened
 pub mod Placed
+pub mod Played
 pub mod ReceiveLaws
 pub mod SendLaws
-pub mod Shown
 pub mod Standing
 pub mod StreamLists
 pub mod Unplaced
 pub mod Walked
 pub mod Walks
+pub mod Wired
 pub mod WordValues

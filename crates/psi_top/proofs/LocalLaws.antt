@@ -1,169 +1,252 @@
 -- The promises of `local` in its own words.
-use Rattle.std.proofs.Common.{◌≡◌, ◌<◌, ◌≤◌, inl, inr, ℕ, Bool, true, false, nat_lt, List, [], ◌∷◌, length, map, Some, None, Ok, Err, refl, sym, ap, ◌∙◌, subst, arith, slice_get, zero, suc}
+use Rattle.std.proofs.Common.{◌≡◌, inl, inr, ℕ, Bool, true, false, nat_lt, if◌then◌else◌, List, [], ◌∷◌, length, map, Some, refl, sym, ap, ◌∙◌, subst, arith, slice_get, zero, suc}
 use Rattle.std.specs.List.{Contains}
-use Rattle.std.specs.declared.result.Result.{Result}
 use Rattle.std.proofs.lemmas.Bool.Decides.{nat_tests}
-use Rattle.psi_spec.specs.Limits.{bins_for, file_limit, usual_stash}
-use Rattle.psi_spec.specs.Meeting.{IsSetup, ShowsCommon, shown}
-use Rattle.psi_spec.specs.Placement.{Slot}
+use Rattle.psi_spec.specs.Deals.{ArePair}
+use Rattle.psi_spec.specs.Items.{items_of}
+use Rattle.psi_spec.specs.Limits.{bins_for, file_limit}
+use Rattle.psi_spec.specs.Meeting.{placed_of, shown}
+use Rattle.psi_spec.specs.Placement.{Slot, IsPlacementOf}
+use Rattle.psi_spec.specs.Records.{record_file}
+use Rattle.psi_spec.specs.SessionLaws.{FindsShown}
 use Rattle.psi_spec.specs.Texts.{lines_text}
-use Rattle.psi_top.specs.Words.{number_of, seed_of, word_at}
-use Rattle.psi_spec.proofs.Dealing.{dealt_setup, stash_placement}
-use Rattle.psi_spec.proofs.Meeting.{shows_common}
-use Rattle.psi_spec.proofs.Placing.{items_of-placed_of, length-stash_slots}
-use Rattle.psi_base.specs.Outside.{Known, Outside, printed_too}
+use Rattle.psi_top.specs.Words.{number_of, seed_of, stash_of, tag_length_of, word_at}
+use Rattle.psi_spec.proofs.Dealing.{dealt_are_pairs, dealt_receiver_sizes, dealt_sender_sizes, length-placement}
+use Rattle.psi_spec.proofs.Finding.{pairs_find_shown}
+use Rattle.psi_spec.proofs.Placing.{items_of-placed_of}
+use Rattle.psi_base.specs.Outside.{Known, Outside, Files, printed_too, written}
 use Rattle.psi_top.specs.Commands.{Answers}
+use Rattle.psi_top.specs.Due.{after_effects, told}
 use Rattle.psi_top.specs.Files.{items_in, reads_items}
-use Rattle.psi_top.specs.Local.{few_enough, local_receiver, local_rest, local_setup, local_slots, local_text, local_tree, most_local}
 use Rattle.psi_top.specs.JudgedFiles.{HasItems}
-use Rattle.psi_top.specs.LocalPromises.{HasBoth, IsOfLocal, LocalAnswers, LocalShows, PrintedShown}
-use Rattle.psi_top.specs.Promises.{IsAnswered, IsOfEffect, IsOfEnd, IsUnread, Leaves}
-use Rattle.psi_top.specs.Tree.{Effect, says, decides, ends, End}
+use Rattle.psi_top.specs.Local.{keeps, local_receiver, local_sender, local_session, local_set, local_setup, local_text, local_tree}
+use Rattle.psi_top.specs.LocalPromises.{CanPlay, HasRecordWord, IsOfLocal, LocalAnswers, LocalCompletes, LocalShows, PrintedShown, WasPlaced, recorded}
+use Rattle.psi_top.specs.Promises.{IsAnswered, IsOfEffect, IsOfEnd, IsReady, IsSilent, IsUnread, Leaves}
+use Rattle.psi_top.specs.Receive.{placing_of}
+use Rattle.psi_top.specs.Tree.{Effect, says, puts, End}
+use Rattle.psi_top.specs.Walk.{IsNotPlaced}
 use Rattle.psi_top.specs.declared.form.Command.TheVariants.{Local}
 use Rattle.psi_top.specs.declared.status.Status.{Status}
 use Rattle.psi_top.specs.declared.status.Status.TheVariants as status
 use Rattle.psi_top.proofs.Answered.{follows_answers}
-use Rattle.psi_top.proofs.JudgedFiles.{AtFile, unread, wanting, refused, taken_on, answered_items, has_bad_line, has_items, items_bad, left_decides, left_items}
-use Rattle.psi_top.proofs.Laws.{answers_done, follows_told}
-use Rattle.psi_top.proofs.Unplaced.{PlacesNone, decides_none, items_place_none, none_is_placed}
+use Rattle.psi_top.proofs.JudgedFiles.{AtFile, unread, wanting, refused, taken_on, answered_items, has_bad_line, has_items, items_bad, left_items}
+use Rattle.psi_top.proofs.Laws.{answers_done, answers_through, follows_told}
+use Rattle.psi_top.proofs.ReceiveLaws.{is_placement}
+use Rattle.psi_top.proofs.SendLaws.{items_ready, ready_on}
 
-few_is : (xs : List (List ℕ)) → nat_lt most_local (length xs) ≡ true → few_enough xs ≡ Err (status.LargeSet (length xs))
-unfolding few_enough
-few_is xs t = rw t refl
+-- ---- the named deals
 
-few_is_not : (xs : List (List ℕ)) → nat_lt most_local (length xs) ≡ false → few_enough xs ≡ Ok tt
-unfolding few_enough
-few_is_not xs t = rw t refl
+pub local_pair : (words : List (List ℕ)) → ArePair (local_receiver words) (local_sender words)
+unfolding local_receiver local_sender
+local_pair words = dealt_are_pairs (seed_of (word_at words 3)) (number_of (word_at words 4)) (tag_length_of (word_at words 5)) (stash_of (word_at words 5))
 
-few_ok : (xs : List (List ℕ)) (x : Unit {0}) → few_enough xs ≡ Ok x → length xs ≤ most_local
-few_ok xs x e = by_test (nat_lt most_local (length xs)) refl
-  where
-    by_test : (b : Bool) → nat_lt most_local (length xs) ≡ b → length xs ≤ most_local
-    by_test true t = absurd (let f : Err (status.LargeSet (length xs)) ≡ Ok x = sym (few_is xs t) ∙ e in cc f)
-    by_test false t = grind (arith, nat_tests)
+local_seeds : (words : List (List ℕ)) → length (local_receiver words).seeds ≡ 512
+unfolding local_receiver
+local_seeds words = (dealt_receiver_sizes (seed_of (word_at words 3)) (number_of (word_at words 4)) (tag_length_of (word_at words 5)) (stash_of (word_at words 5))).count
 
-few_err : (xs : List (List ℕ)) (why : Status) → few_enough xs ≡ Err why → (why ≡ status.LargeSet (length xs)) × (most_local < length xs)
-few_err xs why e = by_test (nat_lt most_local (length xs)) refl
-  where
-    by_test : (b : Bool) → nat_lt most_local (length xs) ≡ b → (why ≡ status.LargeSet (length xs)) × (most_local < length xs)
-    by_test true t = (let f : Err (status.LargeSet (length xs)) ≡ Err why = sym (few_is xs t) ∙ e in cc f, grind (arith, nat_tests))
-    by_test false t = absurd (let f : Ok tt ≡ Err why = sym (few_is_not xs t) ∙ e in cc f)
+local_choice : (words : List (List ℕ)) → length (local_sender words).choice ≡ 64
+unfolding local_sender
+local_choice words = (dealt_sender_sizes (seed_of (word_at words 3)) (number_of (word_at words 4)) (tag_length_of (word_at words 5)) (stash_of (word_at words 5))).choice
 
-local_is_setup : (words : List (List ℕ)) (xs : List (List ℕ)) → length xs ≤ most_local → IsSetup usual_stash (local_setup words xs)
-unfolding local_setup
-local_is_setup words xs few = dealt_setup usual_stash (seed_of (word_at words 3)) (number_of (word_at words 4)) (number_of (word_at words 5)) xs few
+-- these slots are a placement of items with the named deal
+IsPlacedFor : List (List ℕ) → List (List ℕ) → List Slot → Type 0
+IsPlacedFor words xs slots = IsPlacementOf (local_receiver words).stash (local_receiver words).key (bins_for (length xs)) xs slots
 
-local_places : (words : List (List ℕ)) (xs : List (List ℕ)) → map (λ p. p.item) (local_setup words xs).placed ≡ xs
-unfolding local_setup
-local_places words xs = items_of-placed_of xs (local_slots xs) (sym (length-stash_slots (bins_for (length xs)) (length xs)))
+pub local_finds : (words : List (List ℕ)) (xs ys : List (List ℕ)) (slots : List Slot)
+    → IsPlacementOf (local_receiver words).stash (local_receiver words).key (bins_for (length xs)) xs slots
+    → FindsShown (local_receiver words) (local_sender words) xs ys slots
+local_finds words xs ys slots placement =
+    pairs_find_shown (local_receiver words) (local_sender words) xs ys slots (local_pair words) (local_seeds words) (local_choice words) placement
 
-text_is_shown : (words : List (List ℕ)) (xs ys : List (List ℕ)) → local_text words xs ys ≡ lines_text (shown (local_setup words xs) ys)
+-- ---- what a run that is done left
+
+text_is_shown : (words : List (List ℕ)) (xs : List (List ℕ)) (slots : List Slot) (ys : List (List ℕ)) → local_text words xs slots ys ≡ lines_text (shown (local_setup words xs slots) ys)
 unfolding local_text
-text_is_shown words xs ys = refl
+text_is_shown words xs slots ys = refl
 
-local_leaves : (known : Known) (words : List (List ℕ)) (before : Outside) (end : End) → Leaves known words (local_tree words) before end
-    → PrintedShown known words before end.left
-local_leaves known words before end h =
-    let x = left_items known words 1 (λ xs. reads_items 2 (λ ys. local_rest words xs ys)) before end h in
-    let y = left_items known words 2 (λ ys. local_rest words x.0 ys) before end x.2 in
-    let xs = x.0 in
-    let ys = y.0 in
-    let few = left_decides known words (few_enough xs) (λ _. ends None (says (local_text words xs ys) ∷ [])) before end y.2 in
-    let small = few_ok xs few.0 few.1 in
-    let law : ShowsCommon (local_setup words xs) ys = shows_common usual_stash (local_setup words xs) ys (local_is_setup words xs small) in
+-- the text was printed, and the record was written where there is a word for it
+done_is_recorded : (words : List (List ℕ)) (before : Outside) (text file : List ℕ)
+    → after_effects words before (says text ∷ keeps words file) ≡ recorded words (printed_too before text) file
+done_is_recorded words before text file = by_word (nat_lt 6 (length words))
+  where
+    by_word : (b : Bool) → after_effects words before (says text ∷ (if b then puts 6 file ∷ [] else []))
+        ≡ (if b then written (printed_too before text) (word_at words 6) file else printed_too before text)
+    by_word true = refl
+    by_word false = refl
+
+set_leaves : (known : Known) (words : List (List ℕ)) (before : Outside) (xs ys : List (List ℕ)) (end : End) → HasItems known words before 1 xs → HasItems known words before 2 ys
+    → Leaves known words (local_set words xs ys) before end → PrintedShown known words before end
+set_leaves known words before xs ys end x_file y_file h =
+    let slots = h.0 in
+    let placement = is_placement (local_receiver words) xs slots h.2 in
+    let finds = local_finds words xs ys slots placement in
+    let long : length xs ≡ length slots = length-placement (local_receiver words).stash (local_receiver words).key (bins_for (length xs)) xs slots placement in
+    let items : map (λ p. p.item) (placed_of xs slots) ≡ xs = items_of-placed_of xs slots long in
+    let file : List ℕ = record_file slots (local_session words xs slots ys) in
     record {
       xs = xs;
       ys = ys;
-      x_file = x.1;
-      y_file = y.1;
-      few = small;
-      left = ap (λ (d : End). d.left) few.2 ∙ ap (λ (t : List ℕ). printed_too before t) (text_is_shown words xs ys);
-      slots = stash_placement usual_stash (local_receiver words).key (bins_for (length xs)) xs small;
-      placed = local_places words xs;
-      common = λ item in_x in_y. law.common item (subst (λ (items : List (List ℕ)). Contains items item) (sym (local_places words xs)) in_x) in_y;
-      others = law.others;
+      slots = slots;
+      x_file = x_file;
+      y_file = y_file;
+      pair = local_pair words;
+      placement = placement;
+      carried = ap (λ (d : End). d.placed) h.3 ∙ ap (λ (d : End). slots ∷ d.placed) h.4;
+      left = ap (λ (d : End). d.left) h.3 ∙ (ap (λ (d : End). d.left) h.4
+          ∙ (done_is_recorded words before (local_text words xs slots ys) file
+          ∙ ap (λ (text : List ℕ). recorded words (printed_too before text) file) (text_is_shown words xs slots ys)));
+      wire = ap (λ (d : End). d.wire) h.3 ∙ ap (λ (d : End). d.wire) h.4;
+      common = λ item own other. finds.shows.common item (subst (λ (all : List (List ℕ)). Contains all item) (sym items) own) other;
+      others = finds.shows.others;
     }
+
+local_leaves : (known : Known) (words : List (List ℕ)) (before : Outside) (end : End) → Leaves known words (local_tree words) before end
+    → PrintedShown known words before end
+local_leaves known words before end h =
+    let x = left_items known words 1 (λ xs. reads_items 2 (λ ys. local_set words xs ys)) before end h in
+    let y = left_items known words 2 (λ ys. local_set words x.0 ys) before end x.2 in
+    set_leaves known words before x.0 y.0 end x.1 y.1 y.2
 
 pub answers_shown : (known : Known) (words : List (List ℕ)) (before : Outside) (end : End) → Answers known words before end → LocalShows known words before end
 answers_shown known words before end h = λ named done. local_leaves known words before end (answers_done known words before end h Local named done)
 
 -- ---- what `local` may answer
 
-local_places_none : (words : List (List ℕ)) → PlacesNone (local_tree words)
-unfolding PlacesNone
-local_places_none words =
-    items_place_none 1 (λ xs. reads_items 2 (λ ys. local_rest words xs ys)) (λ xs. items_place_none 2 (λ ys. local_rest words xs ys)
-    (λ ys. decides_none (few_enough xs) (λ _. ends None (says (local_text words xs ys) ∷ [])) (λ _. tt)))
+-- what it answers, with nothing sent or taken
+Answered : Known → List (List ℕ) → Outside → List (List Slot) → Status → Outside → Type 0
+Answered known words before slots why after = LocalAnswers known words before slots why × IsSilent before after
 
-first_unread : (known : Known) (words : List (List ℕ)) (before : Outside) (why : Status) → IsUnread 1 file_limit why → LocalAnswers known words before why
-first_unread known words before (status.FileFault place) h = inl h
-first_unread known words before (status.TooLong place taken) h = inl h
-first_unread known words before status.NoMemory h = tt
-first_unread known words before _ h = absurd h
+wanted : (known : Known) (words : List (List ℕ)) (before : Outside) (slots : List (List Slot)) (why : Status) (after : Outside)
+    → why ≡ status.NoMemory → IsSilent before after → slots ≡ [] → Answered known words before slots why after
+unfolding Answered
+wanted known words before slots why after s quiet none = subst (λ (x : Status). Answered known words before slots x after) (sym s) (inl none, quiet)
 
-second_unread : (known : Known) (words : List (List ℕ)) (before : Outside) (xs : List (List ℕ)) → HasItems known words before 1 xs
-    → (why : Status) → IsUnread 2 file_limit why → LocalAnswers known words before why
-second_unread known words before xs first (status.FileFault place) h = inr (xs, first, h)
-second_unread known words before xs first (status.TooLong place taken) h = inr (xs, first, h)
-second_unread known words before xs first status.NoMemory h = tt
-second_unread known words before xs first _ h = absurd h
+first_unread : (known : Known) (words : List (List ℕ)) (before : Outside) (slots : List (List Slot)) (why : Status) → IsUnread 1 file_limit why → slots ≡ []
+    → LocalAnswers known words before slots why
+first_unread known words before slots (status.FileFault place) h none = inl (inl h, none)
+first_unread known words before slots (status.TooLong place taken) h none = (inl h.0, h.1, none)
+first_unread known words before slots status.NoMemory h none = inl none
+first_unread known words before slots _ h none = absurd h
 
--- a text that is printed writes no file
-no_file : (text : List ℕ) (at : ℕ) (effect : Effect) (place : ℕ) → slice_get (says text ∷ []) at ≡ Some effect → IsOfEffect (status.FileFault place) effect → ⊥
-no_file text zero effect place e h = let f : IsOfEffect (status.FileFault place) (says text) = subst (λ (x : Effect). IsOfEffect (status.FileFault place) x) (sym (same e)) h in f
+second_unread : (known : Known) (words : List (List ℕ)) (before : Outside) (slots : List (List Slot)) (xs : List (List ℕ)) → HasItems known words before 1 xs
+    → (why : Status) → IsUnread 2 file_limit why → slots ≡ [] → LocalAnswers known words before slots why
+second_unread known words before slots xs first (status.FileFault place) h none = inl (inr (xs, first, h), none)
+second_unread known words before slots xs first (status.TooLong place taken) h none = (inr (xs, first, h.0), h.1, none)
+second_unread known words before slots xs first status.NoMemory h none = inl none
+second_unread known words before slots xs first _ h none = absurd h
+
+-- only the record is written, and only where there is a word for it
+only_record : (words : List (List ℕ)) (text file : List ℕ) (at : ℕ) (effect : Effect) (place : ℕ) → slice_get (says text ∷ keeps words file) at ≡ Some effect
+    → IsOfEffect (status.FileFault place) effect → (place ≡ 6) × HasRecordWord words
+only_record words text file at effect place e h = by_word (nat_lt 6 (length words)) refl at e
   where
-    same : Some (says text) ≡ Some effect → says text ≡ effect
-    same e = cc e
-no_file text (suc at) effect place e h = cc e
+    same : (one other : Effect) → Some one ≡ Some other → one ≡ other
+    same one other e = cc e
 
-of_end : (known : Known) (words : List (List ℕ)) (before : Outside) (text : List ℕ) → HasBoth known words before (λ xs. length xs ≤ most_local)
-    → (why : Status) → IsOfEnd false why (says text ∷ []) → LocalAnswers known words before why
-of_end known words before text both status.Done h = both
-of_end known words before text both status.PrintFault h = both
-of_end known words before text both status.NoMemory h = tt
-of_end known words before text both (status.FileFault place) h = absurd (no_file text h.0 h.1 place h.2 h.3)
-of_end known words before text both _ h = absurd h.3
+    by_word : (b : Bool) → nat_lt 6 (length words) ≡ b → (at : ℕ) → slice_get (says text ∷ (if b then puts 6 file ∷ [] else [])) at ≡ Some effect
+        → (place ≡ 6) × HasRecordWord words
+    by_word b t zero e =
+        absurd (let f : IsOfEffect (status.FileFault place) (says text) = subst (λ (x : Effect). IsOfEffect (status.FileFault place) x) (sym (same (says text) effect e)) h in f)
+    by_word true t (suc zero) e = (
+      let f : IsOfEffect (status.FileFault place) (puts 6 file) = subst (λ (x : Effect). IsOfEffect (status.FileFault place) x) (sym (same (puts 6 file) effect e)) h in f,
+      grind (arith, nat_tests),
+    )
+    by_word true t (suc (suc at)) e = cc e
+    by_word false t (suc at) e = cc e
 
-of_rest : (known : Known) (words : List (List ℕ)) (before : Outside) (xs ys : List (List ℕ)) → HasItems known words before 1 xs → HasItems known words before 2 ys
-    → (slots : List (List Slot)) (why : Status) (after : Outside) → IsAnswered known words false (local_rest words xs ys) before slots why after → LocalAnswers known words before why
-unfolding decides
-of_rest known words before xs ys first second slots why after a = by_size (few_enough xs) refl a
-  where
-    by_size : (r : Result (Unit {0}) Status) → few_enough xs ≡ r
-        → IsAnswered known words false (decides r (λ _. ends None (says (local_text words xs ys) ∷ []))) before slots why after → LocalAnswers known words before why
-    by_size (Ok x) e a = of_end known words before (local_text words xs ys) (record { xs = xs; ys = ys; x_file = first; y_file = second; fact = few_ok xs x e }) why a.0
-    by_size (Err verdict) e (inl s, quiet, none) = subst (λ (x : Status). LocalAnswers known words before x) (sym s) tt
-    by_size (Err verdict) e (inr s, quiet, none) =
-        let large = few_err xs verdict e in
-        subst (λ (x : Status). LocalAnswers known words before x) (sym (s.0 ∙ large.0))
-        (record { xs = xs; ys = ys; x_file = first; y_file = second; fact = (refl, large.1) })
+of_end : (known : Known) (words : List (List ℕ)) (before : Outside) (slots : List (List Slot)) (text file : List ℕ) → WasPlaced known words before slots
+    → (why : Status) → IsOfEnd false why (says text ∷ keeps words file) → LocalAnswers known words before slots why
+of_end known words before slots text file was status.Done h = was
+of_end known words before slots text file was status.PrintFault h = was
+of_end known words before slots text file was status.NoMemory h = inr was
+of_end known words before slots text file was (status.FileFault place) h =
+    let of_record = only_record words text file h.0 h.1 place h.2 h.3 in
+    inr (of_record.0, of_record.1, was)
+of_end known words before slots text file was _ h = absurd h.3
+
+not_placed : (known : Known) (words : List (List ℕ)) (before : Outside) (xs ys : List (List ℕ)) → HasItems known words before 1 xs → HasItems known words before 2 ys
+    → (why : Status) → IsNotPlaced 1 (placing_of (local_receiver words) xs) why → LocalAnswers known words before [] why
+unfolding placing_of
+not_placed known words before xs ys first second (status.NoPlacement place items touched) h =
+    (h.0, record { xs = xs; ys = ys; x_file = first; y_file = second; fact = (h.1, h.2) }, refl)
+not_placed known words before xs ys first second status.NoMemory h = inl refl
+not_placed known words before xs ys first second _ h = absurd h
+
+of_set : (known : Known) (words : List (List ℕ)) (before : Outside) (xs ys : List (List ℕ)) → HasItems known words before 1 xs → HasItems known words before 2 ys
+    → (slots : List (List Slot)) (why : Status) (after : Outside) → IsAnswered known words false (local_set words xs ys) before slots why after
+    → Answered known words before slots why after
+unfolding Answered
+of_set known words before xs ys first second [] why after a = (not_placed known words before xs ys first second why a.0, a.1)
+of_set known words before xs ys first second (chosen ∷ rest) why after a =
+    let placement = is_placement (local_receiver words) xs chosen a.0 in
+    let end = a.1 in
+    let carried : chosen ∷ rest ≡ chosen ∷ [] = ap (λ (more : List (List Slot)). chosen ∷ more) end.3 in
+    let was : WasPlaced known words before (chosen ∷ rest) =
+    record { xs = xs; ys = ys; x_file = first; y_file = second; fact = (chosen, carried, placement) } in
+    (of_end known words before (chosen ∷ rest) (local_text words xs chosen ys) (record_file chosen (local_session words xs chosen ys)) was why end.0, end.1)
 
 of_second : (known : Known) (words : List (List ℕ)) (before : Outside) (xs : List (List ℕ)) → HasItems known words before 1 xs → (slots : List (List Slot)) (why : Status) (after : Outside)
-    → AtFile known words before 2 (items_in 2) slots why after (λ ys. IsAnswered known words false (local_rest words xs ys) before slots why after) → LocalAnswers known words before why
-of_second known words before xs first slots why after (unread h quiet none) = second_unread known words before xs first why h
-of_second known words before xs first slots why after (wanting s quiet none) = subst (λ (x : Status). LocalAnswers known words before x) (sym s) tt
+    → AtFile known words before 2 (items_in 2) slots why after (λ ys. IsAnswered known words false (local_set words xs ys) before slots why after)
+    → Answered known words before slots why after
+unfolding Answered
+of_second known words before xs first slots why after (unread h quiet none) = (second_unread known words before slots xs first why h none, quiet)
+of_second known words before xs first slots why after (wanting s quiet none) = wanted known words before slots why after s quiet none
 of_second known words before xs first slots why after (refused bytes read e quiet none) =
     let bad = items_bad 2 bytes why e in
-    subst (λ (x : Status). LocalAnswers known words before x) (sym bad.2) (inr (xs, first, (refl, has_bad_line known words before 2 bytes bad.0 read bad.1)))
+    subst (λ (x : Status). Answered known words before slots x after) (sym bad.2)
+    ((inr (xs, first, (refl, has_bad_line known words before 2 bytes bad.0 read bad.1)), none), quiet)
 of_second known words before xs first slots why after (taken_on bytes ys read e a) =
-    of_rest known words before xs ys first (has_items known words before 2 bytes ys read e) slots why after a
+    of_set known words before xs ys first (has_items known words before 2 bytes ys read e) slots why after a
 
 of_first : (known : Known) (words : List (List ℕ)) (before : Outside) (slots : List (List Slot)) (why : Status) (after : Outside)
-    → AtFile known words before 1 (items_in 1) slots why after (λ xs. IsAnswered known words false (reads_items 2 (λ ys. local_rest words xs ys)) before slots why after)
-    → LocalAnswers known words before why
-of_first known words before slots why after (unread h quiet none) = first_unread known words before why h
-of_first known words before slots why after (wanting s quiet none) = subst (λ (x : Status). LocalAnswers known words before x) (sym s) tt
+    → AtFile known words before 1 (items_in 1) slots why after (λ xs. IsAnswered known words false (reads_items 2 (λ ys. local_set words xs ys)) before slots why after)
+    → Answered known words before slots why after
+unfolding Answered
+of_first known words before slots why after (unread h quiet none) = (first_unread known words before slots why h none, quiet)
+of_first known words before slots why after (wanting s quiet none) = wanted known words before slots why after s quiet none
 of_first known words before slots why after (refused bytes read e quiet none) =
     let bad = items_bad 1 bytes why e in
-    subst (λ (x : Status). LocalAnswers known words before x) (sym bad.2) (inl (refl, has_bad_line known words before 1 bytes bad.0 read bad.1))
+    subst (λ (x : Status). Answered known words before slots x after) (sym bad.2)
+    ((inl (refl, has_bad_line known words before 1 bytes bad.0 read bad.1), none), quiet)
 of_first known words before slots why after (taken_on bytes xs read e a) =
     of_second known words before xs (has_items known words before 1 bytes xs read e) slots why after
-    (answered_items known words 2 (λ ys. local_rest words xs ys) before slots why after a)
+    (answered_items known words 2 (λ ys. local_set words xs ys) before slots why after a)
 
 pub answers_local : (known : Known) (words : List (List ℕ)) (before : Outside) (end : End) → Answers known words before end → IsOfLocal known words before end
+unfolding Answered
 answers_local known words before end h = λ fit named.
-    let a = follows_answers known words false (local_tree words) before end (follows_told known words before end h Local fit named) in (
-      of_first known words before end.placed end.status end.left
-          (answered_items known words 1 (λ xs. reads_items 2 (λ ys. local_rest words xs ys)) before end.placed end.status end.left a),
-      none_is_placed known words false (local_tree words) before end.placed end.status end.left (local_places_none words) a,
-    )
+    let a = follows_answers known words false (local_tree words) before end (follows_told known words before end h Local fit named) in
+    of_first known words before end.placed end.status end.left
+    (answered_items known words 1 (λ xs. reads_items 2 (λ ys. local_set words xs ys)) before end.placed end.status end.left a)
+
+-- ---- valid lists, and a set that has a placement
+
+set_is_ready : (words : List (List ℕ)) (files : Files) (before : Outside) (can : CanPlay words files) (ys : List (List ℕ))
+    → IsReady (told files words) before (local_set words (items_of can.x.bytes) ys)
+unfolding placing_of
+set_is_ready words files before can ys = ((can.slots, can.placement), λ slots is. tt)
+
+second_is_ready : (words : List (List ℕ)) (files : Files) (before : Outside) (can : CanPlay words files)
+    → IsReady (told files words) before (reads_items 2 (λ ys. local_set words (items_of can.x.bytes) ys))
+unfolding reads_items
+second_is_ready words files before can = (
+  can.y.bytes,
+  can.y.there,
+  can.y.short,
+  ready_on (told files words) before (items_in 2 can.y.bytes) (items_of can.y.bytes) (λ ys. local_set words (items_of can.x.bytes) ys)
+      (items_ready words can.y.bytes 2 can.y.good) (set_is_ready words files before can (items_of can.y.bytes)),
+)
+
+local_is_ready : (words : List (List ℕ)) (files : Files) (before : Outside) (can : CanPlay words files) → IsReady (told files words) before (local_tree words)
+unfolding reads_items
+local_is_ready words files before can = (
+  can.x.bytes,
+  can.x.there,
+  can.x.short,
+  ready_on (told files words) before (items_in 1 can.x.bytes) (items_of can.x.bytes) (λ xs. reads_items 2 (λ ys. local_set words xs ys))
+      (items_ready words can.x.bytes 1 can.x.good) (second_is_ready words files before can),
+)
+
+pub answers_completed : (known : Known) (words : List (List ℕ)) (before : Outside) (end : End) → Answers known words before end → LocalCompletes words before end
+answers_completed known words before end h = λ files incoming is coming fit named can calm.
+    answers_through known words before end h files incoming Local is coming fit named (local_is_ready words files before can) calm

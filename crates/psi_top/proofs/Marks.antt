@@ -13,7 +13,7 @@ use Rattle.psi_base.specs.declared.faults.Fault.{Fault}
 use Rattle.psi_base.proofs.Printing.{printed_twice, refused_first, then_second}
 use Rattle.psi_receiver.specs.Receiving.{finder, hits_of}
 use Rattle.psi_top.specs.Receive.{marked}
-use Rattle.psi_top.proofs.Compared.{StandsAt, line_if}
+use Rattle.psi_top.proofs.Elements.{StandsAt, line_if}
 
 -- ---- which items are marked
 

@@ -84,7 +84,7 @@ heard_well known before xs deal slots taken is were read =
     }
 
 -- a placement of the set is one of its items
-is_placement : (deal : ReceiverDeal) (xs : List (List ℕ)) (slots : List Slot)
+pub is_placement : (deal : ReceiverDeal) (xs : List (List ℕ)) (slots : List Slot)
     → IsPlacement (placing_of deal xs).stash (placing_of deal xs).bins (placing_of deal xs).candidates slots
     → IsPlacementOf deal.stash deal.key (bins_for (length xs)) xs slots
 unfolding placing_of

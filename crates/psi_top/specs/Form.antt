@@ -1,12 +1,12 @@
 -- The commands, and the forms of their words.
 use Rattle.std.specs.Prelude.{ℕ, List, map, Option, Some, None, codes, if◌then◌else◌}
 use Rattle.std.specs.Str.{bytes_eq}
-use Rattle.psi_top.specs.Words.{Form as Test, Forms, alone, are_sizes, is_name, is_output, is_seed, is_session, is_tag_length, word_at}
+use Rattle.psi_top.specs.Words.{Form as Test, Forms, alone, are_sizes, is_name, is_output, is_seed, is_session, word_at}
 use Rattle.psi_top.specs.declared.form.Command.{Command}
 use Rattle.psi_top.specs.declared.form.Command.TheVariants.{Deal, Local, Receive, Send}
 use Rattle.psi_top.specs.declared.form.CommandForms.{CommandForms}
 use Rattle.psi_top.specs.declared.form.Form.{Form}
-use Rattle.psi_top.specs.declared.form.Form.TheVariants.{Name, Output, Seed, Session, Sizes, TagLength}
+use Rattle.psi_top.specs.declared.form.Form.TheVariants.{Name, Output, Seed, Session, Sizes}
 
 -- the test that a word of this form passes, at its place among all words
 abbrev pub test_of : Form → Test
@@ -15,7 +15,6 @@ test_of (Output from to) = is_output from to
 test_of Seed = alone is_seed
 test_of Session = alone is_session
 test_of Sizes = alone are_sizes
-test_of TagLength = alone is_tag_length
 
 -- the tests of forms
 abbrev pub tests_of : List Form → List Test

@@ -1,5 +1,4 @@
 pub mod Commands
-pub mod Comparing
 pub mod Deal
 pub mod Due
 pub mod Files
@@ -12,8 +11,8 @@ pub mod Receive
 pub mod ReceivePromises
 pub mod Send
 pub mod SendPromises
-pub mod Session
 pub mod Texts
+pub mod Transcript
 pub mod Tree
 pub mod Walk
 pub mod Words

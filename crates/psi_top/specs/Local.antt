@@ -1,50 +1,57 @@
--- What `local` does: it reads both lists, and prints the receiver's items that are shown.
-use Rattle.std.specs.Prelude.{ℕ, List, [], ◌∷◌, length, None, Result, Ok, Err, nat_lt, if◌then◌else◌}
-use Rattle.psi_spec.specs.Limits.{bins_for, usual_stash}
+-- What `local` does: it reads both lists, places the receiver's items, runs a whole session in memory, prints the
+-- receiver's items that are shown, and writes the record of the session where a word names a file for it.
+use Rattle.std.specs.Prelude.{ℕ, List, [], ◌∷◌, length, Some, nat_lt, if◌then◌else◌}
+use Rattle.sha2.specs.Sha256.{sha256}
 use Rattle.psi_spec.specs.Deals.{ReceiverDeal, SenderDeal, dealt_receiver, dealt_sender}
-use Rattle.psi_spec.specs.Placement.{Slot, stash_slots}
-use Rattle.psi_spec.specs.Meeting.{Setup, setup_of, shown}
+use Rattle.psi_spec.specs.Meeting.{Setup, placed_of, shown}
+use Rattle.psi_spec.specs.Placement.{Slot}
+use Rattle.psi_spec.specs.Records.{record_file}
+use Rattle.psi_spec.specs.SessionLaws.{pair_setup}
+use Rattle.psi_spec.specs.Sessions.{session_bytes}
 use Rattle.psi_spec.specs.Texts.{lines_text}
-use Rattle.psi_top.specs.Words.{word_at, seed_of, number_of}
+use Rattle.psi_top.specs.Words.{number_of, seed_of, stash_of, tag_length_of, word_at}
 use Rattle.psi_top.specs.Files.{reads_items}
-use Rattle.psi_top.specs.Tree.{says, Tree, ends, decides}
-use Rattle.psi_top.specs.declared.status.Status.{Status}
-use Rattle.psi_top.specs.declared.status.Status.TheVariants.{LargeSet}
+use Rattle.psi_top.specs.Receive.{placing_of}
+use Rattle.psi_top.specs.Tree.{Effect, says, puts, Tree, places, ends}
 
--- the most items of the receiver
-abbrev pub most_local : ℕ
-most_local = 4
-
--- the pair of deals that the words of `local` name by their seed, session and tag length
-abbrev pub local_receiver : List (List ℕ) → ReceiverDeal
+-- the pair of deals that the words of `local` name by their seed, session and sizes
+unfoldable pub local_receiver : List (List ℕ) → ReceiverDeal
 local_receiver words =
-    dealt_receiver (seed_of (word_at words 3)) (number_of (word_at words 4)) (number_of (word_at words 5)) usual_stash
+    dealt_receiver (seed_of (word_at words 3)) (number_of (word_at words 4))
+    (tag_length_of (word_at words 5)) (stash_of (word_at words 5))
 
-abbrev pub local_sender : List (List ℕ) → SenderDeal
+unfoldable pub local_sender : List (List ℕ) → SenderDeal
 local_sender words =
-    dealt_sender (seed_of (word_at words 3)) (number_of (word_at words 4)) (number_of (word_at words 5)) usual_stash
+    dealt_sender (seed_of (word_at words 3)) (number_of (word_at words 4))
+    (tag_length_of (word_at words 5)) (stash_of (word_at words 5))
 
--- the slots of the receiver's items: item i stands at row bins + i with index 0
-abbrev pub local_slots : List (List ℕ) → List Slot
-local_slots items = stash_slots (bins_for (length items)) (length items)
-
--- the setup of `local`
-unfoldable pub local_setup : List (List ℕ) → List (List ℕ) → Setup
-local_setup words items =
-    setup_of usual_stash (local_receiver words) (local_sender words) items (local_slots items)
+-- the setup of that pair and of the receiver's items in their slots
+abbrev pub local_setup : List (List ℕ) → List (List ℕ) → List Slot → Setup
+local_setup words xs slots = pair_setup (local_receiver words) (local_sender words) xs slots
 
 -- what `local` prints: the receiver's items that meet some item of the sender, a line each
-unfoldable pub local_text : List (List ℕ) → List (List ℕ) → List (List ℕ) → List ℕ
-local_text words xs ys = lines_text (shown (local_setup words xs) ys)
+unfoldable pub local_text : List (List ℕ) → List (List ℕ) → List Slot → List (List ℕ) → List ℕ
+local_text words xs slots ys = lines_text (shown (local_setup words xs slots) ys)
 
--- the receiver's items are few enough, or refused
-unfoldable pub few_enough : List (List ℕ) → Result (Unit {0}) Status
-few_enough xs = if nat_lt most_local (length xs) then Err (LargeSet (length xs)) else Ok tt
+-- the bytes that both ends exchange, in order
+unfoldable pub local_session : List (List ℕ) → List (List ℕ) → List Slot → List (List ℕ) → List ℕ
+local_session words xs slots ys = session_bytes (local_receiver words) (local_sender words) (placed_of xs slots) ys
 
--- what is left of `local` with both lists of items
-abbrev pub local_rest : List (List ℕ) → List (List ℕ) → List (List ℕ) → Tree
-local_rest words xs ys = decides (few_enough xs) (λ _. ends None (says (local_text words xs ys) ∷ []))
+-- the record is written where there is a word for its file
+abbrev pub keeps : List (List ℕ) → List ℕ → List Effect
+keeps words file = if nat_lt 6 (length words) then puts 6 file ∷ [] else []
 
--- the receiver's and the sender's items, the size of the receiver's set, and the text
+-- what is left of `local` with both lists and the slots of the receiver's items: the session, of which the digest is
+-- answered, the text and the record
+abbrev pub local_rest : List (List ℕ) → List (List ℕ) → List (List ℕ) → List Slot → Tree
+local_rest words xs ys slots =
+    ends (Some (sha256 (local_session words xs slots ys)))
+    (says (local_text words xs slots ys) ∷ keeps words (record_file slots (local_session words xs slots ys)))
+
+-- what is left of it with both lists
+abbrev pub local_set : List (List ℕ) → List (List ℕ) → List (List ℕ) → Tree
+local_set words xs ys = places 1 (placing_of (local_receiver words) xs) (λ slots. local_rest words xs ys slots)
+
+-- the receiver's items, the sender's, the placement and the rest
 abbrev pub local_tree : List (List ℕ) → Tree
-local_tree words = reads_items 1 (λ xs. reads_items 2 (λ ys. local_rest words xs ys))
+local_tree words = reads_items 1 (λ xs. reads_items 2 (λ ys. local_set words xs ys))

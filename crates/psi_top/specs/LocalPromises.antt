@@ -1,18 +1,26 @@
 -- What callers read of `local`, in its own words.
-use Rattle.std.specs.Prelude.{◌≡◌, ◌<◌, ◌≤◌, ◌⊎◌, ℕ, List, [], Contains, length, map, Some, None}
-use Rattle.psi_spec.specs.Limits.{bins_for, file_limit, usual_stash}
+use Rattle.std.specs.Prelude.{◌≡◌, ◌<◌, ◌≤◌, ◌⊎◌, ℕ, List, [], ◌∷◌, Contains, length, nat_lt, Some, None, if◌then◌else◌}
+use Rattle.sha2.specs.Sha256.{sha256}
+use Rattle.psi_spec.specs.Deals.{ArePair}
+use Rattle.psi_spec.specs.Items.{first_bad, items_of}
+use Rattle.psi_spec.specs.Limits.{bins_for, file_limit}
 use Rattle.psi_spec.specs.Meeting.{Placed, SharesTag, shown, shown_placed}
-use Rattle.psi_spec.specs.Placement.{IsPlacementOf}
+use Rattle.psi_spec.specs.Placement.{Slot, IsPlacementOf}
+use Rattle.psi_spec.specs.Records.{record_file}
 use Rattle.psi_spec.specs.Texts.{lines_text}
-use Rattle.psi_top.specs.Words.{bad_word}
-use Rattle.psi_base.specs.Outside.{Known, Outside, printed_too}
+use Rattle.psi_top.specs.Words.{bad_word, word_at}
+use Rattle.psi_base.specs.Outside.{Known, Outside, Files, printed_too, written}
 use Rattle.psi_top.specs.Form.{command_of}
 use Rattle.psi_top.specs.JudgedFiles.{HasBadLine, HasItems}
-use Rattle.psi_top.specs.Local.{local_receiver, local_setup, local_slots, most_local}
+use Rattle.psi_top.specs.Local.{local_receiver, local_sender, local_session, local_setup}
+use Rattle.psi_top.specs.Promises.{IsCalm, IsSilent}
+use Rattle.psi_top.specs.ReceivePromises.{IsCrowdedSet}
 use Rattle.psi_top.specs.Tree.{End}
 use Rattle.psi_top.specs.declared.form.Command.TheVariants.{Local}
 use Rattle.psi_top.specs.declared.status.Status.{Status}
-use Rattle.psi_top.specs.declared.status.Status.TheVariants.{Done, BadItems as RefusedItems, FileFault, PrintFault, TooLong, LargeSet, NoMemory}
+use Rattle.psi_top.specs.declared.status.Status.TheVariants.{Done, BadItems, NoPlacement, FileFault, PrintFault, TooLong, NoMemory}
+
+-- ---- what it may answer
 
 -- a fact on the first item file, or on the second where the first has items
 abbrev pub OnFirstOrSecond : Known → List (List ℕ) → Outside → (ℕ → Type 0) → Type 0
@@ -27,42 +35,105 @@ pub record HasBoth (known : Known) (words : List (List ℕ)) (before : Outside) 
   pub y_file : HasItems known words before 2 ys
   pub fact : P xs
 
--- what `local` may answer, and why, in every world: the files are judged in order, and then the size of the set
-abbrev pub LocalAnswers : Known → List (List ℕ) → Outside → Status → Type 0
-LocalAnswers known words before Done = HasBoth known words before (λ xs. length xs ≤ most_local)
-LocalAnswers known words before (RefusedItems place fault) =
-    OnFirstOrSecond known words before (λ word. (place ≡ word) × HasBadLine known words before word fault)
-LocalAnswers known words before (FileFault place) = OnFirstOrSecond known words before (λ word. place ≡ word)
-LocalAnswers known words before (TooLong place taken) =
-    OnFirstOrSecond known words before (λ word. (place ≡ word) × (file_limit < taken))
-LocalAnswers known words before (LargeSet count) =
-    HasBoth known words before (λ xs. (count ≡ length xs) × (most_local < count))
-LocalAnswers known words before PrintFault = HasBoth known words before (λ xs. length xs ≤ most_local)
-LocalAnswers known words before NoMemory = Unit {0}
-LocalAnswers known words before _ = ⊥
+-- these slots, which an outcome carries and no others, are a placement of items with the named deal
+abbrev pub CarriesPlacement : List (List ℕ) → List (List Slot) → List (List ℕ) → Type 0
+CarriesPlacement words placed xs =
+    (slots : List Slot) × (placed ≡ slots ∷ [])
+    × IsPlacementOf (local_receiver words).stash (local_receiver words).key (bins_for (length xs)) xs slots
 
--- the same where the words are those of `local`, whose outcome has no placement
+-- both files have items, and the receiver's were placed
+abbrev pub WasPlaced : Known → List (List ℕ) → Outside → List (List Slot) → Type 0
+WasPlaced known words before placed = HasBoth known words before (CarriesPlacement words placed)
+
+-- there is a word for the file of the record
+abbrev pub HasRecordWord : List (List ℕ) → Type 0
+HasRecordWord words = 6 < length words
+
+-- what `local` may answer, and why, in every world: the files are judged in order, then the receiver's items are
+-- placed, the lines are printed, and the record is written
+abbrev pub LocalAnswers : Known → List (List ℕ) → Outside → List (List Slot) → Status → Type 0
+LocalAnswers known words before placed Done = WasPlaced known words before placed
+LocalAnswers known words before placed (BadItems place fault) =
+    OnFirstOrSecond known words before (λ word. (place ≡ word) × HasBadLine known words before word fault)
+    × (placed ≡ [])
+LocalAnswers known words before placed (NoPlacement place items touched) =
+    (place ≡ 1) × HasBoth known words before (λ xs. IsCrowdedSet items touched xs (local_receiver words))
+    × (placed ≡ [])
+LocalAnswers known words before placed (FileFault place) =
+    (OnFirstOrSecond known words before (λ word. place ≡ word) × (placed ≡ []))
+    ⊎ ((place ≡ 6) × HasRecordWord words × WasPlaced known words before placed)
+LocalAnswers known words before placed (TooLong place taken) =
+    OnFirstOrSecond known words before (λ word. place ≡ word) × (file_limit < taken) × (placed ≡ [])
+LocalAnswers known words before placed PrintFault = WasPlaced known words before placed
+LocalAnswers known words before placed NoMemory = (placed ≡ []) ⊎ WasPlaced known words before placed
+LocalAnswers known words before placed _ = ⊥
+
+-- the same of a run, which sends and takes nothing
 abbrev pub IsOfLocal : Known → List (List ℕ) → Outside → End → Type 0
 IsOfLocal known words before end =
     bad_word words ≡ None → command_of words ≡ Some Local
-    → LocalAnswers known words before end.status × (end.placed ≡ [])
+    → LocalAnswers known words before end.placed end.status × IsSilent before end.left
 
--- `local` printed the receiver's items that are shown: every common item, and others of which each shares its tag with
--- the sender's item that it names; the items are placed
-pub record PrintedShown (known : Known) (words : List (List ℕ)) (before after : Outside) : Type 0 where
+-- ---- the digest of a session
+
+-- an outcome has the digest of a session only where `local` is done
+abbrev pub IsWiredByLocal : List (List ℕ) → End → Type 0
+IsWiredByLocal words end = (end.wire ≡ None) ⊎ ((command_of words ≡ Some Local) × (end.status ≡ Done))
+
+-- ---- what it leaves
+
+-- the outside with the record written where there is a word for its file
+abbrev pub recorded : List (List ℕ) → Outside → List ℕ → Outside
+recorded words before file = if nat_lt 6 (length words) then written before (word_at words 6) file else before
+
+-- the named deals are a pair and the outcome carries a placement of the receiver's items; with these `local` printed
+-- the items that are shown, which are every common item, and others of which each shares its tag with the sender's item
+-- that it names; it wrote the record of the session, if it has a word, and answered the digest of the session
+pub record PrintedShown (known : Known) (words : List (List ℕ)) (before : Outside) (end : End) : Type 0 where
   pub xs : List (List ℕ)
   pub ys : List (List ℕ)
+  pub slots : List Slot
   pub x_file : HasItems known words before 1 xs
   pub y_file : HasItems known words before 2 ys
-  pub few : length xs ≤ most_local
-  pub left : after ≡ printed_too before (lines_text (shown (local_setup words xs) ys))
-  pub slots : IsPlacementOf usual_stash (local_receiver words).key (bins_for (length xs)) xs (local_slots xs)
-  pub placed : map (λ p. p.item) (local_setup words xs).placed ≡ xs
-  pub common : (item : List ℕ) → Contains xs item → Contains ys item → Contains (shown (local_setup words xs) ys) item
-  pub others : (p : Placed) → Contains (shown_placed (local_setup words xs) ys) p
-      → SharesTag (local_setup words xs) ys p
+  pub pair : ArePair (local_receiver words) (local_sender words)
+  pub placement
+      : IsPlacementOf (local_receiver words).stash (local_receiver words).key (bins_for (length xs)) xs slots
+  pub carried : end.placed ≡ slots ∷ []
+  pub left : end.left
+      ≡ recorded words (printed_too before (lines_text (shown (local_setup words xs slots) ys)))
+      (record_file slots (local_session words xs slots ys))
+  pub wire : end.wire ≡ Some (sha256 (local_session words xs slots ys))
+  pub common : (item : List ℕ) → Contains xs item → Contains ys item
+      → Contains (shown (local_setup words xs slots) ys) item
+  pub others : (p : Placed) → Contains (shown_placed (local_setup words xs slots) ys) p
+      → SharesTag (local_setup words xs slots) ys p
 
 -- the same where `local` is done
 abbrev pub LocalShows : Known → List (List ℕ) → Outside → End → Type 0
 LocalShows known words before end =
-    command_of words ≡ Some Local → end.status ≡ Done → PrintedShown known words before end.left
+    command_of words ≡ Some Local → end.status ≡ Done → PrintedShown known words before end
+
+-- ---- completeness
+
+-- the file of a word is there, and is a list without a bad line
+pub record HasList (words : List (List ℕ)) (files : Files) (word : ℕ) : Type 0 where
+  pub bytes : List ℕ
+  pub there : files (word_at words word) ≡ Some bytes
+  pub short : length bytes ≤ file_limit
+  pub good : first_bad bytes ≡ None
+
+-- both lists are there, and the receiver's items have a placement
+pub record CanPlay (words : List (List ℕ)) (files : Files) : Type 0 where
+  pub x : HasList words files 1
+  pub y : HasList words files 2
+  pub slots : List Slot
+  pub placement
+      : IsPlacementOf (local_receiver words).stash (local_receiver words).key (bins_for (length (items_of x.bytes)))
+      (items_of x.bytes) slots
+
+-- then `local` is done in a calm world, or memory was wanting
+abbrev pub LocalCompletes : List (List ℕ) → Outside → End → Type 0
+LocalCompletes words before end =
+    (files : Files) (incoming : List ℕ) → before.files ≡ Some files → before.incoming ≡ Some incoming
+    → bad_word words ≡ None → command_of words ≡ Some Local → CanPlay words files
+    → IsCalm before end.left → (end.status ≡ Done) ⊎ (end.status ≡ NoMemory)

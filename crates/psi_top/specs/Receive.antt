@@ -3,7 +3,6 @@
 use Rattle.std.specs.Prelude.{◌≡◌, ◌+◌, ◌-◌, ◌*◌, ℕ, Bool, if◌then◌else◌, List, [], ◌∷◌, ◌++◌, length, map, take, drop, min, None, zero, suc}
 use Rattle.std.specs.Int.{w32, from_be_bytes}
 use Rattle.psi_spec.specs.Deals.{ReceiverDeal}
-use Rattle.psi_spec.specs.Formulas.{bin}
 use Rattle.psi_spec.specs.Frames.{tags_of}
 use Rattle.psi_spec.specs.Hits.{hit_items, receiver_side}
 use Rattle.psi_spec.specs.Limits.{bins_for}
@@ -17,10 +16,6 @@ use Rattle.psi_receiver.specs.Laws.{IsStreamFor, own_stream, receiver_dialogue}
 use Rattle.psi_receiver.specs.Receiving.{hits_of}
 use Rattle.psi_top.specs.Files.{reads_items, reads_receiver}
 use Rattle.psi_top.specs.Tree.{Effect, says, puts, Placing, Tree, places, opens, talks, ends}
-
--- the three candidates of an item with this digest
-abbrev pub digest_candidates : List ℕ → ℕ → List ℕ → List ℕ
-digest_candidates key bins digest = bin key bins 1 digest ∷ bin key bins 2 digest ∷ bin key bins 3 digest ∷ []
 
 -- the set of items that is placed with a deal
 unfoldable pub placing_of : ReceiverDeal → List (List ℕ) → Placing

@@ -189,8 +189,8 @@ pub record ShowsCommonItems (deal : ReceiverDeal) (xs : List (List ℕ)) (slots 
   pub others : (p : Placed) → Contains (shown_placed (pair_setup deal sender xs slots) ys) p
       → SharesTag (pair_setup deal sender xs slots) ys p
 
--- a session was run whole, and whatever the sender's deal and items are: where the peer was honest, the common items were
--- printed, and others only with the tag of a sender's item
+-- a session was run whole, and whatever the sender's deal and items are: where the peer was honest, the common items
+-- were printed, and others only with the tag of a sender's item
 pub record FoundCommon (known : Known) (words : List (List ℕ)) (before : Outside) (placed : List (List Slot))
     (after : Outside) : Type 0 where
   pub xs : List (List ℕ)

@@ -7,7 +7,7 @@ use Rattle.psi_deal.specs.declared.errors.BadDeal.TheVariants as deal
 use Rattle.psi_frames.specs.Expected.{number_of_reason}
 use Rattle.psi_frames.specs.declared.reasons.BadFrame.{BadFrame as RefusedFrame}
 use Rattle.psi_top.specs.declared.status.Status.{Status}
-use Rattle.psi_top.specs.declared.status.Status.TheVariants.{Done, BadWords, BadItems as RefusedItems, BadDeal as RefusedDeal, NoPlacement, BadFrame, PeerEnded, FileFault, LinkFault, PrintFault, TooLong, LargeSet, NoMemory}
+use Rattle.psi_top.specs.declared.status.Status.TheVariants.{Done, BadWords, BadItems as RefusedItems, BadDeal as RefusedDeal, NoPlacement, BadFrame, PeerEnded, FileFault, LinkFault, PrintFault, TooLong, NoMemory}
 
 -- the number of a status
 abbrev pub number_of_status : Status → ℕ
@@ -22,7 +22,6 @@ number_of_status (FileFault word) = 10
 number_of_status LinkFault = 11
 number_of_status PrintFault = 12
 number_of_status (TooLong word taken) = 13
-number_of_status (LargeSet count) = 16
 number_of_status NoMemory = 70
 
 -- how a line about the file of a word begins
@@ -85,5 +84,4 @@ fault_text (FileFault word) = word_front word ++ codes "file fault\n"
 fault_text LinkFault = codes "psi: link fault\n"
 fault_text PrintFault = codes "psi: print fault\n"
 fault_text (TooLong word taken) = too_long_text word taken
-fault_text (LargeSet count) = codes "psi: large set of " ++ decimal count ++ codes " items\n"
 fault_text NoMemory = no_memory_text

@@ -4,6 +4,7 @@ use Rattle.psi_spec.specs.Placement.{Slot}
 use Rattle.psi_base.specs.Outside.{Outside}
 use Rattle.psi_frames.specs.Dialogue.{Dialogue}
 use Rattle.psi_top.specs.declared.status.Status.{Status}
+use Rattle.psi_top.specs.declared.status.Status.TheVariants.{Done}
 use Rattle.psi_top.specs.declared.status.Outcome.{Outcome}
 
 -- what is done once nothing is refused any more: a text is printed, or the file of a word is written
@@ -63,9 +64,14 @@ placements_of outcome = slots_within outcome.placement
 -- how a run with this outcome ended
 abbrev pub ended : Outcome → Outside → End
 ended outcome after =
-    record { status = outcome.status; placed = placements_of outcome; wire = None; left = after }
+    record { status = outcome.status; placed = placements_of outcome; wire = outcome.wire; left = after }
 
 -- how a run ended that has this outcome, or was refused before it had one
 abbrev pub end_of : Result Outcome Status → Outside → End
 end_of (Ok outcome) after = ended outcome after
 end_of (Err why) after = stopped why after
+
+-- how a run ended that did all of a session with this digest, or was refused, with no placement from here on
+abbrev pub closed : Result (List ℕ) Status → Outside → End
+closed (Ok digest) after = record { status = Done; placed = []; wire = Some digest; left = after }
+closed (Err why) after = stopped why after

@@ -44,7 +44,6 @@ talk_status peer.NoMemory = status.NoMemory
 abbrev pub IsVerdict : Status → Type 0
 IsVerdict (status.BadItems word why) = Unit {0}
 IsVerdict (status.BadDeal word why) = Unit {0}
-IsVerdict (status.LargeSet count) = Unit {0}
 IsVerdict _ = ⊥
 
 -- what a read of a file may answer and leave: what it gives are bytes
@@ -162,6 +161,15 @@ Makes known words taken effect before (Ok _) after =
 Makes known words taken effect before (Err why) after =
     (wire : Option (List ℕ)) (rest : List Effect)
     → Follows known words taken (ends wire (effect ∷ rest)) before (stopped why after)
+
+-- what a step may answer and leave that does some effects in order
+abbrev pub MakesAll : Known → List (List ℕ) → Bool → List Effect → Outside → Result (Unit {0}) Status → Outside
+    → Type 0
+MakesAll known words taken effects before (Ok _) after =
+    (wire : Option (List ℕ)) (end : End) → Follows known words taken (ends wire []) after end
+    → Follows known words taken (ends wire effects) before end
+MakesAll known words taken effects before (Err why) after =
+    (wire : Option (List ℕ)) → Follows known words taken (ends wire effects) before (stopped why after)
 
 -- what a function that judges a value may answer: what is due, or that memory was wanting
 abbrev pub Settles : {A : Type 0} → Result A Status → Result A Status → Type 0

@@ -91,11 +91,12 @@ pub record Forms : Type 0 where
   pub needed : List Form
   pub optional : List Form
 
--- the forms of `local`: the receiver's file, the sender's file, the seed, the session, the length of a tag
+-- the forms of `local`: the receiver's file, the sender's file, the seed, the session and the sizes; and, where it is
+-- there, the record, which is neither file
 abbrev pub local_forms : Forms
 local_forms = record {
-  needed = alone is_name ∷ alone is_name ∷ alone is_seed ∷ alone is_session ∷ alone is_tag_length ∷ [];
-  optional = [];
+  needed = alone is_name ∷ alone is_name ∷ alone is_seed ∷ alone is_session ∷ alone are_sizes ∷ [];
+  optional = is_output 1 3 ∷ [];
 }
 
 -- the forms of `deal`: the seed, the session, the sizes, the receiver's file and the sender's file

@@ -42,10 +42,7 @@ fn deal_steps<W: World>(alloc: Global, words: &Words, world: &mut W) -> Result<O
     let sender = write_sender(alloc, &sender)?;
     write_word(words, 4, &receiver, world)?;
     write_word(words, 5, &sender, world)?;
-    Ok(Outcome {
-        status: Status::Done,
-        placement: None,
-    })
+    Ok(Outcome::of(Status::Done))
 }
 
 /// Writes the receiver's and then the sender's deal file of a seed.

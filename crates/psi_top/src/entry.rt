@@ -2,7 +2,7 @@
 ghost use Rattle.psi_top.specs.Words.{bad_word};
 ghost use Rattle.psi_top.specs.Commands.{Answers};
 ghost use Rattle.psi_top.specs.Deal.{DealWrites};
-ghost use Rattle.psi_top.specs.LocalPromises.{IsOfLocal, LocalShows};
+ghost use Rattle.psi_top.specs.LocalPromises.{IsOfLocal, IsWiredByLocal, LocalCompletes, LocalShows};
 ghost use Rattle.psi_top.specs.Promises.{Completes, CountsBy, DoneLeaves, IsBadWords, IsDue, IsOfCommand, OnTold, RunsThrough, StandsAt};
 ghost use Rattle.psi_top.specs.ReceivePromises.{IsOfReceive, ReceiveFinds, ReceiveServes};
 ghost use Rattle.psi_top.specs.SendPromises.{IsOfSend, SendServes};
@@ -22,20 +22,14 @@ fn answer<W: World>(alloc: Global, words: &Words, world: &mut W) -> Outcome
     ensures { Answers W.known words.now (W.outside world.old) (ended result (W.outside world.new)) }
 {
     if let Some(at) = bad_word(words) {
-        return Outcome {
-            status: Status::BadWords { at },
-            placement: None,
-        };
+        return Outcome::of(Status::BadWords { at });
     }
     match named_command(words) {
         Some(Command::Deal) => deal_command(alloc, words, world),
         Some(Command::Local) => local_command(alloc, words, world),
         Some(Command::Send) => send_command(alloc, words, world),
         Some(Command::Receive) => receive_command(alloc, words, world),
-        None => Outcome {
-            status: Status::BadWords { at: 0 },
-            placement: None,
-        },
+        None => Outcome::of(Status::BadWords { at: 0 }),
     }
 }
 
@@ -76,11 +70,21 @@ pub fn run<W: World>(alloc: Global, words: &Words, world: &mut W) -> Outcome
     // `deal` writes the two files of a pair of deals, and changes nothing else.
     ensures dealt { DealWrites words.now (W.outside world.old) (ended result (W.outside world.new)) }
 
-    // What `local` may answer, in its own words: its files are judged in order, and then the size of the set.
+    // What `local` may answer, in its own words: its files are judged in order, and then the receiver's items are
+    // placed, the lines printed and the record written. It sends and takes nothing.
     ensures local { IsOfLocal W.known words.now (W.outside world.old) (ended result (W.outside world.new)) }
 
-    // `local` prints every common item, and each other printed item shares its tag with a named sender item.
+    // Where `local` is done, the outcome's slots are a placement of the receiver's items. With it `local` printed every
+    // common item, and each other printed item shares its tag with a named sender item. It wrote the record of the
+    // session with that placement, if there is a word for it, and the outcome has the SHA-256 of the session's bytes.
     ensures shown { LocalShows W.known words.now (W.outside world.old) (ended result (W.outside world.new)) }
+
+    // No other run has such a digest.
+    ensures wire { IsWiredByLocal words.now (ended result (W.outside world.new)) }
+
+    // From valid lists and items that have a placement, `local` is done where no fault was counted or the world is
+    // steady, or memory was wanting.
+    ensures completed { LocalCompletes words.now (W.outside world.old) (ended result (W.outside world.new)) }
 
     // What `send` may answer, in its own words: its files are judged in order, then the link is opened, and then the
     // session is run. Where it is done it took a receiver's stream, and sent the sender's for it.

@@ -3,7 +3,7 @@ ghost use Rattle.std.specs.Prelude.{◌≡◌, ◌+◌, ◌<◌, ◌≤◌, leng
 ghost use Rattle.psi_top.specs.Words.{bad_from, bad_optional, bad_word, forms_of, is_output, word_at};
 ghost use Rattle.psi_top.specs.Form.{command_of, name_of, test_of, tests_of};
 
-use crate::values::{are_sizes, is_seed, is_session, is_tag_length};
+use crate::values::{are_sizes, is_seed, is_session};
 use psi_base::Words;
 
 /// The commands.
@@ -34,8 +34,6 @@ pub enum Form {
     /// The length of a tag in bytes, alone or with a stroke and the number of stash rows behind it: each 1 or 2
     /// decimal digits, with a value from 1 to 16 and of at most 16.
     Sizes,
-    /// The length of a tag in bytes: 1 or 2 decimal digits with a value from 1 to 16.
-    TagLength,
 }
 
 /// The forms of the words after a command's name.
@@ -72,9 +70,9 @@ impl Command {
                     Form::Name,
                     Form::Seed,
                     Form::Session,
-                    Form::TagLength,
+                    Form::Sizes,
                 ],
-                optional: &[],
+                optional: &[Form::Output { from: 1, to: 3 }],
             },
             Command::Send => CommandForms {
                 needed: &[Form::Name, Form::Name, Form::Name],
@@ -105,7 +103,6 @@ impl Form {
             Form::Seed => is_seed(word),
             Form::Session => is_session(word),
             Form::Sizes => are_sizes(word),
-            Form::TagLength => is_tag_length(word),
         }
     }
 }

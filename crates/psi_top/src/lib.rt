@@ -1,7 +1,6 @@
 //! The commands: their words, what they answer, and `run`, which does all that the program does.
 #![tactic(auto)]
 
-mod comparing;
 mod deal;
 mod entry;
 mod form;
@@ -9,11 +8,11 @@ mod local;
 mod placing;
 mod receive;
 mod send;
-mod session;
 mod showing;
 mod status;
 mod steps;
 mod texts;
+mod transcript;
 mod values;
 
 pub use deal::deal_command;

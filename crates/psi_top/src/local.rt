@@ -1,27 +1,47 @@
 // Both ends of a session in one run.
-ghost use Rattle.std.specs.Prelude.{◌≡◌, ◌≤◌, ◌∷◌, [], IfOk, Some, None, length};
+ghost use Rattle.std.specs.Prelude.{◌≡◌, ◌≤◌, ◌∷◌, Bool, List, ℕ, IfOk, Some, None, length, map};
+ghost use Rattle.sha2.specs.Hashers.{Holds256};
+ghost use Rattle.sha2.specs.Sha256.{sha256};
 ghost use Rattle.psi_spec.specs.Deals.{ArePair, IsReceiverDeal, IsSenderDeal};
+ghost use Rattle.psi_spec.specs.Formulas.{item_digest};
+ghost use Rattle.psi_spec.specs.Limits.{bins_for, limit_items};
+ghost use Rattle.psi_spec.specs.Placement.{IsPlacementOf};
+ghost use Rattle.psi_spec.specs.Texts.{lines_text};
 ghost use Rattle.psi_top.specs.Words.{bad_word};
 ghost use Rattle.psi_top.specs.Form.{command_of};
-ghost use Rattle.psi_top.specs.Local.{few_enough, local_receiver, local_sender, local_text, local_tree, most_local};
-ghost use Rattle.psi_top.specs.Tree.{end_of, ended, ends, says};
-ghost use Rattle.psi_top.specs.Walk.{Runs, Settles};
+ghost use Rattle.psi_top.specs.Local.{local_receiver, local_sender, local_set, local_tree};
+ghost use Rattle.psi_top.specs.Receive.{marked};
+ghost use Rattle.psi_top.specs.Transcript.{IsPlayed, front_for, session_size, writes};
+ghost use Rattle.psi_top.specs.Tree.{closed, end_of, ended, ends, says, with_slots};
+ghost use Rattle.psi_top.specs.Walk.{Follows, MakesAll, Runs};
+ghost use Rattle.psi_base.specs.Outside.{Outside};
 
-use crate::comparing::{compare_items, comparisons, met_text};
 use crate::form::{Command, word_at};
-use crate::session::exchange;
+use crate::placing::{item_digests, place_items};
+use crate::showing::print_shown;
 use crate::status::{Outcome, Status, outcome_of};
-use crate::steps::{print_text, read_items};
-use crate::values::{number_of_tag_length, seed_of, session_of};
-use psi_base::{NoMemory, USUAL_STASH, Words, World};
+use crate::steps::{read_items, write_word};
+use crate::transcript::{SessionTranscript, begin_record};
+use crate::values::{seed_of, session_of, sizes_of};
+use psi_base::{NoMemory, Words, World, rows};
+use psi_cuckoo::Placement;
 use psi_deal::{ReceiverDeal, SenderDeal, deal};
 use psi_items::Items;
+use psi_log::{Recorder, write_record};
+use psi_receiver::ReceiverCore;
+use psi_sender::SenderCore;
+use psi_session::exchange;
 use std::alloc::Global;
 
-/// The most items of the receiver.
-const MOST_ITEMS: u32 = 4;
+/// A session that was run whole: the receiver's end, which tells what is shown, and the transcript.
+#[derive(Drop)]
+pub struct PlayedSession<'a> {
+    receiver: ReceiverCore<'a>,
+    transcript: SessionTranscript,
+}
 
-// The pair of deals that the words name.
+// The pair of deals that the words name. Words in form name no sizes that deals can't have.
+#[tactic(auto, unfolding(crate::specs::Local::local_receiver, crate::specs::Local::local_sender))]
 fn local_deals(alloc: Global, words: &Words) -> Result<(ReceiverDeal, SenderDeal), NoMemory>
     requires fit { bad_word words.now ≡ None }
     requires named { command_of words.now ≡ Some Command.Local }
@@ -32,41 +52,102 @@ fn local_deals(alloc: Global, words: &Words) -> Result<(ReceiverDeal, SenderDeal
 {
     let seed = seed_of(word_at(words, 3));
     let session = session_of(word_at(words, 4));
-    let tag_length = number_of_tag_length(word_at(words, 5));
-    // A tag length that is in form is never refused: only memory can be wanting.
-    deal(alloc, &seed, session, tag_length, USUAL_STASH).map_err(|_| NoMemory)
+    let (tag_length, stash) = sizes_of(word_at(words, 5));
+    deal(alloc, &seed, session, tag_length, stash).map_err(|_| NoMemory)
 }
 
-// What is printed for these items.
-fn local_text(alloc: Global, words: &Words, x: &Items, y: &Items) -> Result<Vec<u8>, NoMemory>
-    requires fit { bad_word words.now ≡ None }
-    requires named { command_of words.now ≡ Some Command.Local }
-    requires few { length x.now ≤ most_local }
-    ensures { IfOk result (λ text. text.items ≡ local_text words.now x.now y.now) }
+// How many bytes both ends exchange: the receiver, which has so many items, and a sender of so many.
+fn session_length(deal: &ReceiverDeal, own: u32, peer: u32) -> u64
+    requires deal { IsReceiverDeal deal.now }
+    requires own { own ≤ limit_items }
+    ensures { result ≡ session_size deal.now own peer }
 {
-    let (receiver, sender) = local_deals(alloc, words)?;
-    let rows = exchange(alloc, &receiver, &sender, x)?;
-    let mut compared = comparisons(alloc, &receiver, &rows, x.len())?;
-    compare_items(&sender, y, &mut compared);
-    Ok(met_text(alloc, &compared, x)?)
+    let columns = 512 * (7 + u64::from(rows(own, deal.stash()).div_ceil(8)));
+    let blocks = 10 * u64::from(peer.div_ceil(1024));
+    let tags = u64::from(deal.width()) * u64::from(peer);
+    39 + columns + (34 + u64::from(3 + deal.stash()) * (blocks + tags))
 }
 
-// Refuses a set of too many items.
-#[tactic(auto, unfolding(crate::specs::Local::few_enough))]
-fn few_enough(x: &Items) -> Result<(), Status>
-    ensures settles { Settles (few_enough x.now) result }
-    ensures few { IfOk result (λ _. length x.now ≤ most_local) }
+// Runs the whole session of a pair of deals, of the receiver's placed items and the sender's items.
+fn play<'a>(
+    alloc: Global,
+    words: &Words,
+    x: &'a Items,
+    y: &Items,
+    digests: &[[u8; 32]],
+    deals: &'a (ReceiverDeal, SenderDeal),
+    placement: &'a Placement,
+) -> Result<PlayedSession<'a>, NoMemory>
+    requires digests { digests.now ≡ map item_digest x.now }
+    requires sizes { IsReceiverDeal deals.now.0 × IsSenderDeal deals.now.1 }
+    requires pair { ArePair deals.now.0 deals.now.1 }
+    requires placed { IsPlacementOf deals.now.0.stash deals.now.0.key (bins_for (length x.now)) x.now placement.now }
+    ensures { IfOk result (IsPlayed deals.now.0 deals.now.1 x.now placement.now y.now
+        (front_for words.now placement.now)) }
 {
-    let count = x.len();
-    if count > MOST_ITEMS {
-        return Err(Status::LargeSet { count });
+    let mut receiver = ReceiverCore::new(alloc, x, digests, &deals.0, placement)?;
+    let mut sender = SenderCore::new(alloc, y, &deals.1);
+    let size = session_length(&deals.0, x.len(), y.len());
+    let mut transcript = SessionTranscript::begin(begin_record(alloc, words, placement, size)?);
+    exchange(alloc, &mut receiver, &mut sender, &mut transcript)?;
+    Ok(PlayedSession {
+        receiver,
+        transcript,
+    })
+}
+
+// Writes a record, if there is one.
+fn keep_record<W: World>(words: &Words, log: Option<Recorder>, world: &mut W) -> Result<(), Status>
+    ensures { (taken : Bool) →
+        MakesAll W.known words.now taken (writes log) (W.outside world.old) result (W.outside world.new) }
+{
+    match log {
+        Some(log) => write_word(words, 6, &write_record(log), world),
+        None => Ok(()),
     }
-    Ok(())
 }
 
-// Prints the receiver's items that are shown.
+// Prints the items that are shown, writes the record, and answers the digest of the session.
+fn show_and_keep<W: World>(
+    words: &Words,
+    x: &Items,
+    played: PlayedSession<'_>,
+    world: &mut W,
+) -> Result<[u8; 32], Status>
+    requires { length played.receiver.shown ≡ length x.now }
+    ensures { (bytes : List ℕ) → Holds256 played.entry.transcript.hasher bytes →
+        Runs W.known words.now (ends (Some (sha256 bytes))
+        (says (lines_text (marked played.entry.receiver.shown x.now)) ∷ writes played.entry.transcript.log))
+        (W.outside world.old) (closed result (W.outside world.new)) }
+{
+    print_shown(x, played.receiver.shown(), world)?;
+    let (digest, log) = played.transcript.finish();
+    keep_record(words, log, world)?;
+    Ok(digest)
+}
+
+// How a run ended that placed a set: the rest of it was done, with the digest of its session, or refused.
+fn placed_outcome(placement: Placement, rest: Result<[u8; 32], Status>) -> Outcome
+    ensures { (after : Outside) → ended result after ≡ with_slots placement (closed rest after) }
+{
+    let placement = Some(placement);
+    match rest {
+        Ok(digest) => Outcome {
+            status: Status::Done,
+            placement,
+            wire: Some(digest),
+        },
+        Err(status) => Outcome {
+            status,
+            placement,
+            wire: None,
+        },
+    }
+}
+
+// What `local` does once its files are read.
 #[tactic(auto, using(crate::proofs::Walks::walk))]
-fn print_shown<W: World>(
+fn place_and_play<W: World>(
     alloc: Global,
     words: &Words,
     x: &Items,
@@ -75,16 +156,15 @@ fn print_shown<W: World>(
 ) -> Result<Outcome, Status>
     requires fit { bad_word words.now ≡ None }
     requires named { command_of words.now ≡ Some Command.Local }
-    requires few { length x.now ≤ most_local }
-    ensures { Runs W.known words.now (ends None (says (local_text words.now x.now y.now) ∷ []))
-        (W.outside world.old) (end_of result (W.outside world.new)) }
+    ensures { Runs W.known words.now (local_set words.now x.now y.now) (W.outside world.old)
+        (end_of result (W.outside world.new)) }
 {
-    let text = local_text(alloc, words, x, y)?;
-    print_text(&text, world)?;
-    Ok(Outcome {
-        status: Status::Done,
-        placement: None,
-    })
+    let deals = local_deals(alloc, words)?;
+    let digests = item_digests(alloc, x)?;
+    let placement = place_items(alloc, 1, x, &digests, &deals.0)?;
+    let played = play(alloc, words, x, y, &digests, &deals, &placement)?;
+    let rest = show_and_keep(words, x, played, world);
+    Ok(placed_outcome(placement, rest))
 }
 
 // What `local` does. A refusal before there is an outcome is answered as an error.
@@ -97,15 +177,16 @@ fn local_steps<W: World>(alloc: Global, words: &Words, world: &mut W) -> Result<
 {
     let x = read_items(alloc, words, 1, world)?;
     let y = read_items(alloc, words, 2, world)?;
-    few_enough(&x)?;
-    print_shown(alloc, words, &x, &y, world)
+    place_and_play(alloc, words, &x, &y, world)
 }
 
-/// Deals, runs both ends of a session in memory, and prints the receiver's items that are shown.
+/// Deals, runs both ends of a session in memory, prints the receiver's items that are shown, and then writes the record
+/// of the session, if there is a word for its file.
 ///
-/// The words are `local XFILE YFILE SEED SESSION G`: the files of the receiver's and the sender's items,
-/// the seed of the deal, the number of the session and the length of a tag in bytes. The receiver's
-/// file has at most four items.
+/// The words are `local XFILE YFILE SEED SESSION G [RECORD]`: the files of the receiver's and the sender's items, the
+/// seed of the deal, the number of the session, the length of a tag in bytes, alone or with a stroke and the number of
+/// stash rows behind it, and the file of the record, which is neither list. The outcome's `wire` is the SHA-256 of all
+/// bytes of the session, with or without a record.
 pub fn local_command<W: World>(alloc: Global, words: &Words, world: &mut W) -> Outcome
     requires fit { bad_word words.now ≡ None }
     requires named { command_of words.now ≡ Some Command.Local }

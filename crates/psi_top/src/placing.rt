@@ -3,7 +3,8 @@ ghost use Rattle.std.specs.Prelude.{◌≡◌, ◌≤◌, IfOk, length, map};
 ghost use Rattle.psi_spec.specs.Formulas.{item_digest};
 ghost use Rattle.psi_spec.specs.Limits.{bins_for};
 ghost use Rattle.psi_spec.specs.Placement.{IsPlacementOf};
-ghost use Rattle.psi_top.specs.Receive.{digest_candidates, placing_of};
+ghost use Rattle.psi_oprf.specs.Candidates.{digest_candidates};
+ghost use Rattle.psi_top.specs.Receive.{placing_of};
 ghost use Rattle.psi_top.specs.Walk.{Places};
 
 use crate::status::Status;
@@ -11,7 +12,7 @@ use psi_base::{NoMemory, bins};
 use psi_cuckoo::{NoFit, Placement, place};
 use psi_deal::ReceiverDeal;
 use psi_items::{Items, digest};
-use psi_oprf::candidates;
+use psi_oprf::candidates_of;
 use std::alloc::Global;
 
 /// The digests of the items, in their order.
@@ -37,10 +38,8 @@ fn item_candidates(
     requires { 1 ≤ bins }
     ensures { IfOk result (λ made. made.items ≡ map (digest_candidates key.now bins) digests.now) }
 {
-    let mut made = Vec::with_capacity(alloc, digests.len())?;
-    for i in 0..digests.len() {
-        made.push(candidates(key, &digests[i], bins))?;
-    }
+    let mut made = vec![in alloc; [0; 3]; digests.len()]?;
+    candidates_of(key, digests, bins, &mut made);
     Ok(made)
 }
 

@@ -129,6 +129,7 @@ fn place_and_receive<W: World>(
     Ok(Outcome {
         status: status(rest),
         placement: Some(placement),
+        wire: None,
     })
 }
 

@@ -43,10 +43,7 @@ fn send_steps<W: World>(alloc: Global, words: &Words, world: &mut W) -> Result<O
     let deal = read_sender_deal(alloc, words, 3, world)?;
     open_link(words, 1, Side::Listen, world)?;
     serve(alloc, &items, &deal, world)?;
-    Ok(Outcome {
-        status: Status::Done,
-        placement: None,
-    })
+    Ok(Outcome::of(Status::Done))
 }
 
 /// Runs the sender's end of a session: waits at an address for one receiver, serves it and ends.

@@ -1,5 +1,5 @@
 // What a run answers.
-ghost use Rattle.std.specs.Prelude.{◌≡◌};
+ghost use Rattle.std.specs.Prelude.{◌≡◌, None};
 ghost use Rattle.psi_base.specs.Outside.{Outside};
 ghost use Rattle.psi_top.specs.Texts.{number_of_status};
 ghost use Rattle.psi_top.specs.Tree.{end_of, ended};
@@ -58,10 +58,6 @@ pub enum Status {
         word: u8,
         taken: u64,
     },
-    /// The receiver has this many items, which are more than four.
-    LargeSet {
-        count: u32,
-    },
     /// Memory was wanting.
     NoMemory,
 }
@@ -74,6 +70,22 @@ pub struct Outcome {
     /// The placement of the receiver's set, where the command placed it: None in any other command, and where the set
     /// was not placed.
     pub placement: Option<Placement>,
+    /// The SHA-256 of all bytes that both ends of a session exchanged, in the order of the wire: only where `local` is
+    /// done.
+    pub wire: Option<[u8; 32]>,
+}
+
+impl Outcome {
+    /// How a command ended that placed no set and ran no session of both ends.
+    pub fn of(status: Status) -> Outcome
+        ensures { result ≡ record { status = status; placement = None; wire = None } }
+    {
+        Outcome {
+            status,
+            placement: None,
+            wire: None,
+        }
+    }
 }
 
 impl From<AllocError> for Status {
@@ -98,10 +110,7 @@ pub fn outcome_of(answer: Result<Outcome, Status>) -> Outcome
 {
     match answer {
         Ok(outcome) => outcome,
-        Err(status) => Outcome {
-            status,
-            placement: None,
-        },
+        Err(status) => Outcome::of(status),
     }
 }
 
@@ -121,7 +130,6 @@ pub fn status_number(status: &Status) -> u8
         Status::LinkFault => 11,
         Status::PrintFault => 12,
         Status::TooLong { .. } => 13,
-        Status::LargeSet { .. } => 16,
         Status::NoMemory => 70,
     }
 }

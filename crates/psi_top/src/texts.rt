@@ -182,9 +182,6 @@ impl Line {
             Status::LinkFault => Line::begin("psi: link fault\n"),
             Status::PrintFault => Line::begin("psi: print fault\n"),
             Status::TooLong { word, taken } => Line::about_length(*word, *taken),
-            Status::LargeSet { count } => {
-                Line::about_number("psi: large set of ", u64::from(*count), " items\n")
-            }
             Status::NoMemory => Line::begin("psi: no memory\n"),
         }
     }

@@ -33,8 +33,8 @@ pub fn is_session(word: &str) -> bool
     are_digits(word, 20) && word.parse::<u64>().is_ok()
 }
 
-/// Whether the word has 1 or 2 decimal digits with a value from 1 to 16.
-pub fn is_tag_length(word: &str) -> bool
+// Whether the word has 1 or 2 decimal digits with a value from 1 to 16.
+fn is_tag_length(word: &str) -> bool
     ensures { result ≡ is_tag_length word.now }
 {
     if !are_digits(word, 2) {
@@ -85,8 +85,8 @@ pub fn session_of(word: &str) -> u64
     word.parse::<u64>().unwrap()
 }
 
-/// The length of a tag.
-pub fn number_of_tag_length(word: &str) -> u8
+// The length of a tag.
+fn number_of_tag_length(word: &str) -> u8
     requires { is_tag_length word.now ≡ true }
     ensures { result ≡ number_of word.now }
 {

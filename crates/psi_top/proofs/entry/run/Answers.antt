@@ -2,9 +2,10 @@ use Rattle.psi_top.specs.Tree.{ended}
 use Rattle.psi_top.proofs.Laws.{answers_bad_words, answers_complete, answers_counted, answers_done, answers_exact, answers_of_command, answers_stand, answers_through}
 use Rattle.psi_top.proofs.DealLaws.{answers_dealt}
 use Rattle.psi_top.proofs.HonestLaws.{answers_found}
-use Rattle.psi_top.proofs.LocalLaws.{answers_local, answers_shown}
+use Rattle.psi_top.proofs.LocalLaws.{answers_completed, answers_local, answers_shown}
 use Rattle.psi_top.proofs.ReceiveLaws.{answers_receive, answers_received}
 use Rattle.psi_top.proofs.SendLaws.{answers_send, answers_serve}
+use Rattle.psi_top.proofs.Wired.{answers_wired}
 use Rattle.psi_top.proofs.entry.run.Goals as goal
 
 pub returns-clause-bad_words : goal.returns-clause-bad_words
@@ -50,6 +51,14 @@ returns-clause-local g c =
 pub returns-clause-shown : goal.returns-clause-shown
 returns-clause-shown g c =
     answers_shown g.W.World.known c.args.words.now (g.W.World.outside c.args.world.now) (ended c.answer.result (g.W.World.outside c.answer.new.world)) c.answer.ensures
+
+pub returns-clause-wire : goal.returns-clause-wire
+returns-clause-wire g c =
+    answers_wired g.W.World.known c.args.words.now (g.W.World.outside c.args.world.now) (ended c.answer.result (g.W.World.outside c.answer.new.world)) c.answer.ensures
+
+pub returns-clause-completed : goal.returns-clause-completed
+returns-clause-completed g c =
+    answers_completed g.W.World.known c.args.words.now (g.W.World.outside c.args.world.now) (ended c.answer.result (g.W.World.outside c.answer.new.world)) c.answer.ensures
 
 pub returns-clause-send : goal.returns-clause-send
 returns-clause-send g c =

@@ -1,5 +1,5 @@
 use Rattle.std.proofs.Common.{arith, ◌∙◌, ◌++◌, ◌∷◌, [], ap}
-use Rattle.psi_top.proofs.Compared.{stands_at}
+use Rattle.psi_top.proofs.Elements.{stands_at}
 use Rattle.psi_top.proofs.Digests.{one_digest}
 use Rattle.psi_top.proofs.placing.item_digests.Goals as goal
 

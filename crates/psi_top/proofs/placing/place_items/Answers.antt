@@ -3,7 +3,8 @@ use Rattle.psi_spec.specs.Limits.{bins_for}
 use Rattle.psi_spec.specs.Placement.{candidates_of}
 use Rattle.psi_cuckoo.specs.Refusal.{Refuses}
 use Rattle.psi_cuckoo.specs.declared.errors.NoFit.{NoFit}
-use Rattle.psi_top.specs.Receive.{digest_candidates, placing_of}
+use Rattle.psi_oprf.specs.Candidates.{digest_candidates}
+use Rattle.psi_top.specs.Receive.{placing_of}
 use Rattle.psi_top.proofs.Digests.{candidates_are, candidates_within, crowds_so, placement_so}
 use Rattle.psi_top.proofs.placing.place_items.Goals as goal
 

@@ -1,9 +1,10 @@
-use Rattle.std.proofs.Common.{List, ℕ, [], None, true}
+use Rattle.std.proofs.Common.{List, ℕ, [], None, true, subst, sym}
 use Rattle.psi_sender.specs.Laws.{sender_dialogue}
 use Rattle.psi_top.specs.Files.{reads_sender}
 use Rattle.psi_top.specs.Send.{send_rest}
-use Rattle.psi_top.specs.Tree.{ends, stopped, talks}
-use Rattle.psi_top.specs.declared.status.Status.TheVariants as status
+use Rattle.psi_top.specs.Tree.{ended, ends, talks}
+use Rattle.psi_top.specs.Walk.{Follows}
+use Rattle.psi_top.specs.declared.status.Outcome.{Outcome}
 use Rattle.psi_top.proofs.Walks.{ends_done, talked_on}
 use Rattle.psi_top.proofs.send.send_steps.Goals as goal
 
@@ -15,9 +16,11 @@ returns g c =
     let deal = c.in_ok-deal.deal in
     let opened = g.W.World.outside c.open_link.new.world in
     let after = g.W.World.outside c.serve.new.world in
-    let end = stopped status.Done after in
+    let end = ended c.of.result after in
+    let done : Follows known words true (ends None []) after end =
+    subst (λ (o : Outcome). Follows known words true (ends None []) after (ended o after)) (sym c.of.ensures) (ends_done known words true after) in
     c.in_ok-items.ensures (λ ys. reads_sender 3 (λ d. send_rest ys d)) end
     (c.in_ok-deal.ensures.steps (λ d. send_rest items d) end
     (c.in_ok-open_link.ensures.steps (talks (sender_dialogue deal items) (λ taken. ends None [])) end
     (talked_on known words (sender_dialogue deal items) (λ (taken : List ℕ). Unit {0}) opened after (λ taken. ends None []) end
-    (c.in_ok-serve.ensures words) (λ taken. ends_done known words true after))))
+    (c.in_ok-serve.ensures words) (λ taken. done))))

@@ -5,7 +5,7 @@ use Rattle.psi_spec.specs.Texts.{lines_text}
 use Rattle.psi_base.specs.Outside.{PrintsAll}
 use Rattle.psi_base.specs.declared.faults.Fault.{Fault}
 use Rattle.psi_top.specs.Receive.{marked}
-use Rattle.psi_top.proofs.Compared.{stands_at}
+use Rattle.psi_top.proofs.Elements.{stands_at}
 use Rattle.psi_top.proofs.Marks.{mark_stands, no_line, printed_line, refused_line}
 use Rattle.psi_top.proofs.showing.print_lines.Goals as goal
 use Rattle.psi_top.proofs.showing.print_lines.Goals.{then-marks-place+in_ok-print_line, else-marks-place}
