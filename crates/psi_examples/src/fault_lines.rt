@@ -48,7 +48,6 @@ fn bad_items_have_lines(rt: HostRuntime) {
 fn files_and_words_have_lines(rt: HostRuntime) {
     let bad_words = Status::BadWords { at: 4 };
     let file_fault = Status::FileFault { word: 2 };
-    let large_set = Status::LargeSet { count: 5 };
     let too_long = Status::TooLong {
         word: 1,
         taken: 33_554_433,
@@ -63,7 +62,6 @@ fn files_and_words_have_lines(rt: HostRuntime) {
         13,
         "psi: word 1: too long after 33554433 bytes\n",
     );
-    expect_line(&rt, &large_set, 16, "psi: large set of 5 items\n");
     expect_line(&rt, &Status::NoMemory, 70, "psi: no memory\n");
 }
 

@@ -5,7 +5,8 @@ use std::test::Fail;
 
 const ONE_ITEM: Option<&[u8]> = Some(b"a\n");
 
-const FIVE_ITEMS: Option<&[u8]> = Some(b"a\nb\nc\nd\ne\n");
+/// Six items whose candidates are all one bin of the eight, in which the stash leaves one without a row.
+const CROWDED: Option<&[u8]> = Some(b"i16\ni278\ni331\ni351\ni551\ni723\n");
 
 const RETURN_IN_LINE: Option<&[u8]> = Some(b"x\ry");
 
@@ -24,7 +25,7 @@ const X_FAULT: &str = "psi: word 1: file fault\n";
 
 const Y_FAULT: &str = "psi: word 2: file fault\n";
 
-const FIVE: &str = "psi: large set of 5 items\n";
+const CROWD: &str = "psi: word 1: 6 items touch 1 bins\n";
 
 const LONG_IN_X: &str = "psi: word 1: line 2: item of 300 bytes\n";
 
@@ -36,7 +37,6 @@ const BYTE_IN_Y: &str = "psi: word 2: line 1: byte 13\n";
 
 /// The name of a row, the files x and y, of which None is missing, and the line of the refusal.
 const REFUSED: &[(&str, Option<&[u8]>, Option<&[u8]>, &str)] = &[
-    ("five items", FIVE_ITEMS, ONE_ITEM, FIVE),
     ("no y", ONE_ITEM, None, Y_FAULT),
     ("no x", None, ONE_ITEM, X_FAULT),
     ("long line in x", LONG_LINE, ONE_ITEM, LONG_IN_X),
@@ -44,13 +44,9 @@ const REFUSED: &[(&str, Option<&[u8]>, Option<&[u8]>, &str)] = &[
     ("long line in y", ONE_ITEM, LONG_LINE, LONG_IN_Y),
     ("byte in y", ONE_ITEM, RETURN_IN_LINE, BYTE_IN_Y),
     ("byte in x, no y", RETURN_IN_LINE, None, BYTE_IN_X),
-    ("five items, no y", FIVE_ITEMS, None, Y_FAULT),
-    (
-        "five items, byte in y",
-        FIVE_ITEMS,
-        RETURN_IN_LINE,
-        BYTE_IN_Y,
-    ),
+    ("crowded x", CROWDED, ONE_ITEM, CROWD),
+    ("crowded x, no y", CROWDED, None, Y_FAULT),
+    ("crowded x, byte in y", CROWDED, RETURN_IN_LINE, BYTE_IN_Y),
 ];
 
 #[test]

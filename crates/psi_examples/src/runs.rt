@@ -2,7 +2,7 @@
 // has to answer.
 use psi_base::{MemWorld, NoMemory, Words};
 use psi_top::{fault_line, run};
-use std::alloc::Global;
+use std::alloc::{AllocError, Global};
 use std::process::Abort;
 
 /// The seed of 64 digits 0.
@@ -30,6 +30,15 @@ pub fn world_of(alloc: Global, x: Option<&[u8]>, y: Option<&[u8]>) -> Result<Mem
         world.put_file("y", bytes)?;
     }
     Ok(world)
+}
+
+/// So many lines of a letter and a number, from 0 on.
+pub fn numbered_lines(alloc: Global, letter: char, count: u32) -> Result<String, AllocError> {
+    let mut lines = String::new(alloc);
+    for number in 0..count {
+        lines.push_str(&format!(in alloc; "{letter}{number}\n")?)?;
+    }
+    Ok(lines)
 }
 
 /// The line of a run that is done.

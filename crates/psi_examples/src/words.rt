@@ -57,11 +57,26 @@ const BAD_WORDS: &[(&str, &[&str], u32)] = &[
         &["local", "x", "y", Z, "0", "17", "r"],
         5,
     ),
-    ("seven words", &["local", "x", "y", Z, "0", "16", "r"], 6),
+    (
+        "seventeen stash rows",
+        &["local", "x", "y", Z, "0", "16/17"],
+        5,
+    ),
+    ("empty record", &["local", "x", "y", Z, "0", "16", ""], 6),
+    (
+        "the record is the receiver's list",
+        &["local", "x", "y", Z, "0", "16", "x"],
+        6,
+    ),
+    (
+        "the record is the sender's list",
+        &["local", "x", "y", Z, "0", "16", "y"],
+        6,
+    ),
     (
         "eight words",
         &["local", "x", "y", Z, "0", "16", "r", "s"],
-        6,
+        7,
     ),
 ];
 
@@ -96,6 +111,7 @@ const GOOD_WORDS: &[(&str, &str, &str, &str)] = &[
     ("leading zeros", Z, "00000000000000000016", "1"),
     ("tag length 01", Z, "7", "01"),
     ("tag length 9", Z, "7", "9"),
+    ("stash rows", Z, "7", "16/0"),
 ];
 
 #[test]

@@ -12,6 +12,9 @@ pub mod Laws
 pub mod Left
 pub mod LocalLaws
 pub mod LocalWords
+pub mod MadeLengths
+pub mod MakeLaws
+pub mod MakeWords
 pub mod Marks
 pub mod NamedWords
 pub mod Placed
@@ -20,6 +23,8 @@ pub mod ReceiveLaws
 pub mod SendLaws
 pub mod Standing
 pub mod StreamLists
+pub mod TrialLaws
+pub mod TrialPlayed
 pub mod Unplaced
 pub mod Walked
 pub mod Walks

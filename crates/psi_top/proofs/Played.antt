@@ -8,10 +8,10 @@ use Rattle.psi_spec.specs.DealFiles.{sealed}
 use Rattle.psi_spec.specs.Deals.{ReceiverDeal, SenderDeal}
 use Rattle.psi_spec.specs.Hits.{hit_items, receiver_side}
 use Rattle.psi_spec.specs.Limits.{bins_for}
-use Rattle.psi_spec.specs.Meeting.{Placed, placed_of}
+use Rattle.psi_spec.specs.Meeting.{Placed, placed_of, shown}
 use Rattle.psi_spec.specs.Placement.{Slot, IsPlacementOf}
 use Rattle.psi_spec.specs.Records.{record_file, record_front}
-use Rattle.psi_spec.specs.SessionLaws.{pair_lists}
+use Rattle.psi_spec.specs.SessionLaws.{FindsShown, pair_lists, pair_setup}
 use Rattle.psi_spec.specs.Sessions.{dealt_masked, session_bytes}
 use Rattle.psi_spec.specs.Streams.{sender_side}
 use Rattle.psi_spec.specs.TagLists.{tag_lists}
@@ -27,7 +27,7 @@ use Rattle.psi_top.specs.Receive.{marked, placing_of}
 use Rattle.psi_top.specs.Transcript.{IsPlayed, WentOn, front_for, log_of, writes}
 use Rattle.psi_top.specs.Tree.{Effect, says, puts, closed, ends, with_slots}
 use Rattle.psi_top.specs.Walk.{Does, Follows, Makes, MakesAll, Places, Runs, all_done}
-use Rattle.psi_top.specs.declared.local.PlayedSession.{PlayedSession}
+use Rattle.psi_top.specs.declared.playing.PlayedSession.{PlayedSession}
 use Rattle.psi_top.specs.declared.status.Status.{Status}
 use Rattle.psi_top.specs.declared.transcript.SessionTranscript.{SessionTranscript}
 use Rattle.psi_top.proofs.LocalLaws.{local_finds}
@@ -103,19 +103,25 @@ same_lists receiver sender xs slots ys long =
     ap (λ (n : ℕ). tag_lists sender.stash (sender_side sender n (dealt_masked receiver (placed_of xs slots))) ys) (length-placed_of xs slots long)
 
 -- the marked items are those that are shown
-played_text : (words : List (List ℕ)) (xs : List (List ℕ)) (slots : List Slot) (ys : List (List ℕ)) (marks : List Bool)
+pub played_items : (receiver : ReceiverDeal) (sender : SenderDeal) (xs : List (List ℕ)) (slots : List Slot) (ys : List (List ℕ)) (marks : List Bool)
+    → IsPlacementOf receiver.stash receiver.key (bins_for (length xs)) xs slots → FindsShown receiver sender xs ys slots
+    → marks ≡ hits_of receiver (placed_of xs slots) (lists_for receiver sender (placed_of xs slots) ys)
+    → marked marks xs ≡ shown (pair_setup receiver sender xs slots) ys
+played_items receiver sender xs slots ys marks placement finds shown_is =
+    let long = length-placement receiver.stash receiver.key (bins_for (length xs)) xs slots placement in
+    ap (λ (bs : List Bool). marked bs xs) shown_is
+    ∙ (marked_hits receiver xs slots (lists_for receiver sender (placed_of xs slots) ys) long
+    ∙ (ap (λ (lists : List (List (List ℕ))). hit_items (receiver_side receiver xs slots) lists) (same_lists receiver sender xs slots ys long)
+    ∙ finds.hit))
+
+-- and so their lines are what `local` prints
+pub played_text : (words : List (List ℕ)) (xs : List (List ℕ)) (slots : List Slot) (ys : List (List ℕ)) (marks : List Bool)
     → IsPlacementOf (local_receiver words).stash (local_receiver words).key (bins_for (length xs)) xs slots
     → marks ≡ hits_of (local_receiver words) (placed_of xs slots) (lists_for (local_receiver words) (local_sender words) (placed_of xs slots) ys)
     → lines_text (marked marks xs) ≡ local_text words xs slots ys
 unfolding local_text
 played_text words xs slots ys marks placement shown_is =
-    let receiver = local_receiver words in
-    let sender = local_sender words in
-    let long = length-placement receiver.stash receiver.key (bins_for (length xs)) xs slots placement in
-    ap lines_text (ap (λ (bs : List Bool). marked bs xs) shown_is
-    ∙ (marked_hits receiver xs slots (lists_for receiver sender (placed_of xs slots) ys) long
-    ∙ (ap (λ (lists : List (List (List ℕ))). hit_items (receiver_side receiver xs slots) lists) (same_lists receiver sender xs slots ys long)
-    ∙ (local_finds words xs ys slots placement).hit)))
+    ap lines_text (played_items (local_receiver words) (local_sender words) xs slots ys marks placement (local_finds words xs ys slots placement) shown_is)
 
 -- the record of the session is written where there is a word for it
 played_record : (words : List (List ℕ)) (slots : List Slot) (wire : List ℕ) (log : Option RecorderState)

@@ -8,20 +8,20 @@ use Rattle.psi_frames.specs.Dialogue.{Talks}
 use Rattle.psi_top.specs.Commands.{Answers, AnswersBy, tree_of}
 use Rattle.psi_top.specs.Files.{items_in, reads_items, reads_receiver, reads_sender, receiver_in, sender_in}
 use Rattle.psi_top.specs.Form.{command_of}
-use Rattle.psi_top.specs.LocalPromises.{IsWiredByLocal}
+use Rattle.psi_top.specs.LocalPromises.{IsWired, RunsBothEnds}
 use Rattle.psi_top.specs.Tree.{Effect, says, puts, Placing, Tree, reads, refuses, places, opens, talks, ends, decides, End, stopped}
 use Rattle.psi_top.specs.Walk.{AtCall, AtPlace, AtRefusal, AtEnd, starved, cut, passed, hungry, crowded, placed, given_up, refused, gave_up, all_done, Does, Follows, Gives, read_status, write_status, print_status, open_status, talk_status}
 use Rattle.psi_top.specs.declared.form.Command.{Command}
-use Rattle.psi_top.specs.declared.form.Command.TheVariants.{Deal, Local, Receive, Send}
+use Rattle.psi_top.specs.declared.form.Command.TheVariants.{Deal, Local, Make, Receive, Send, Trial}
 use Rattle.psi_top.specs.declared.status.Status.{Status}
 use Rattle.psi_top.specs.declared.status.Status.TheVariants as status
 
 -- an end without a digest, or a run that is done and may have one
-IsWired : Bool → End → Type 0
-IsWired may end = (end.wire ≡ None) ⊎ ((may ≡ true) × (end.status ≡ status.Done))
+MayHave : Bool → End → Type 0
+MayHave may end = (end.wire ≡ None) ⊎ ((may ≡ true) × (end.status ≡ status.Done))
 
-stopped_wired : (may : Bool) (why : Status) (after : Outside) (end : End) → end ≡ stopped why after → IsWired may end
-unfolding IsWired
+stopped_wired : (may : Bool) (why : Status) (after : Outside) (end : End) → end ≡ stopped why after → MayHave may end
+unfolding MayHave
 stopped_wired may why after end e = inl (ap (λ (d : End). d.wire) e)
 
 -- what a tree ends with: a digest only where one may be had
@@ -34,19 +34,19 @@ MayBeWired may (talks d next) = (bytes : List ℕ) → MayBeWired may (next byte
 MayBeWired may (ends wire effects) = (may ≡ true) ⊎ (wire ≡ None)
 
 call_wired : {A E : Type 0} (may taken : Bool) (Calls : Result A E → Outside → Type 0) (status_of : E → Status) (before : Outside) (end : End)
-    (Rest : A → Outside → Type 0) → ((x : A) (after : Outside) → Rest x after → IsWired may end) → AtCall taken Calls status_of before end Rest → IsWired may end
+    (Rest : A → Outside → Type 0) → ((x : A) (after : Outside) → Rest x after → MayHave may end) → AtCall taken Calls status_of before end Rest → MayHave may end
 call_wired may taken Calls status_of before end Rest ok (starved t e) = stopped_wired may status.NoMemory before end e
 call_wired may taken Calls status_of before end Rest ok (cut why after h e) = stopped_wired may (status_of why) after end e
 call_wired may taken Calls status_of before end Rest ok (passed x after h more) = ok x after more
 
-end_wired : (may taken : Bool) (wire : Option (List ℕ)) (before : Outside) (end : End) → (may ≡ true) ⊎ (wire ≡ None) → AtEnd taken wire before end → IsWired may end
-unfolding IsWired
+end_wired : (may taken : Bool) (wire : Option (List ℕ)) (before : Outside) (end : End) → (may ≡ true) ⊎ (wire ≡ None) → AtEnd taken wire before end → MayHave may end
+unfolding MayHave
 end_wired may taken wire before end m (gave_up t e) = stopped_wired may status.NoMemory before end e
 end_wired may taken wire before end (inl m) (all_done e) = inr (m, ap (λ (d : End). d.status) e)
 end_wired may taken wire before end (inr none) (all_done e) = inl (ap (λ (d : End). d.wire) e ∙ none)
 
 does_wired : (may : Bool) (words : List (List ℕ)) (taken : Bool) (wire : Option (List ℕ)) (effects : List Effect) (before : Outside) (end : End) → (may ≡ true) ⊎ (wire ≡ None)
-    → Does words taken wire effects before end → IsWired may end
+    → Does words taken wire effects before end → MayHave may end
 unfolding Does
 does_wired may words taken wire [] before end m h = end_wired may taken wire before end m h
 does_wired may words taken wire (says text ∷ rest) before end m h =
@@ -55,13 +55,13 @@ does_wired may words taken wire (puts word bytes ∷ rest) before end m h =
     call_wired may taken (Writes before (word_at words word) bytes) (write_status word) before end (λ _ after. Does words taken wire rest after end)
     (λ x after more. does_wired may words taken wire rest after end m more) h
 
-refusal_wired : (may taken : Bool) (verdict : Status) (before : Outside) (end : End) → AtRefusal taken verdict before end → IsWired may end
+refusal_wired : (may taken : Bool) (verdict : Status) (before : Outside) (end : End) → AtRefusal taken verdict before end → MayHave may end
 refusal_wired may taken verdict before end (given_up t e) = stopped_wired may status.NoMemory before end e
 refusal_wired may taken verdict before end (refused v e) = stopped_wired may verdict before end e
 
 place_wired : (may taken : Bool) (word : ℕ) (set : Placing) (before : Outside) (end : End) (Rest : List Slot → End → Type 0)
-    → ((slots : List Slot) (later : End) → Rest slots later → IsWired may later) → AtPlace taken word set before end Rest → IsWired may end
-unfolding IsWired
+    → ((slots : List Slot) (later : End) → Rest slots later → MayHave may later) → AtPlace taken word set before end Rest → MayHave may end
+unfolding MayHave
 place_wired may taken word set before end Rest ok (hungry t e) = stopped_wired may status.NoMemory before end e
 place_wired may taken word set before end Rest ok (crowded items h e) = inl (ap (λ (d : End). d.wire) e)
 place_wired may taken word set before end Rest ok (placed slots later h e more) = so (ok slots later more)
@@ -71,7 +71,7 @@ place_wired may taken word set before end Rest ok (placed slots later h e more) 
     so (inr done) = inr (done.0, ap (λ (d : End). d.status) e ∙ done.1)
 
 follows_wired : (may : Bool) (known : Known) (words : List (List ℕ)) (taken : Bool) (tree : Tree) (before : Outside) (end : End) → MayBeWired may tree
-    → Follows known words taken tree before end → IsWired may end
+    → Follows known words taken tree before end → MayHave may end
 unfolding Follows MayBeWired
 follows_wired may known words taken (reads word limit next) before end m h =
     call_wired may taken (Gives known before (word_at words word) limit) (read_status word) before end (λ bytes after. Follows known words taken (next bytes) after end)
@@ -102,32 +102,38 @@ items_wired may word next h = λ bytes. decides_wired may (items_in word bytes) 
 -- whether a command runs a session of both ends
 runs_both : Command → Bool
 runs_both Local = true
+runs_both Trial = true
 runs_both _ = false
 
 tree_wired : (command : Command) (words : List (List ℕ)) → MayBeWired (runs_both command) (tree_of command words)
 unfolding MayBeWired runs_both reads_items reads_sender reads_receiver
 tree_wired Deal words = inr refl
+tree_wired Make words = inr refl
+tree_wired Trial words = λ slots. inl refl
 tree_wired Local words = items_wired true 1 _ (λ xs. items_wired true 2 _ (λ ys slots. inl refl))
 tree_wired Send words = λ y_bytes. decides_wired false (items_in 2 y_bytes) _ (λ ys s_bytes. decides_wired false (sender_in 3 s_bytes) _ (λ deal bytes. inr refl))
 tree_wired Receive words =
     λ x_bytes. decides_wired false (items_in 2 x_bytes) _ (λ xs r_bytes. decides_wired false (receiver_in 3 r_bytes) _ (λ deal slots bytes. inr refl))
 
-only_local : (command : Command) → runs_both command ≡ true → command ≡ Local
+-- the words of such a command name it
+both_named : (words : List (List ℕ)) (command : Command) → command_of words ≡ Some command → runs_both command ≡ true → RunsBothEnds words
 unfolding runs_both
-only_local Local e = refl
-only_local Deal e = cc e
-only_local Send e = cc e
-only_local Receive e = cc e
+both_named words Local named e = inl named
+both_named words Trial named e = inr named
+both_named words Deal named e = cc e
+both_named words Send named e = cc e
+both_named words Receive named e = cc e
+both_named words Make named e = cc e
 
-pub answers_wired : (known : Known) (words : List (List ℕ)) (before : Outside) (end : End) → Answers known words before end → IsWiredByLocal words end
-unfolding IsWired
+pub answers_wired : (known : Known) (words : List (List ℕ)) (before : Outside) (end : End) → Answers known words before end → IsWired words end
+unfolding MayHave
 answers_wired known words before end h = by_words (bad_word words) (command_of words) refl h
   where
-    by_words : (place : Option ℕ) (o : Option Command) → command_of words ≡ o → AnswersBy known words before end place o → IsWiredByLocal words end
+    by_words : (place : Option ℕ) (o : Option Command) → command_of words ≡ o → AnswersBy known words before end place o → IsWired words end
     by_words (Some at) o named h = inl (ap (λ (d : End). d.wire) h)
     by_words None None named h = absurd h
     by_words None (Some command) named h = so (follows_wired (runs_both command) known words false (tree_of command words) before end (tree_wired command words) h)
       where
-        so : (end.wire ≡ None) ⊎ ((runs_both command ≡ true) × (end.status ≡ status.Done)) → IsWiredByLocal words end
+        so : (end.wire ≡ None) ⊎ ((runs_both command ≡ true) × (end.status ≡ status.Done)) → IsWired words end
         so (inl none) = inl none
-        so (inr done) = inr (named ∙ ap Some (only_local command done.0), done.1)
+        so (inr done) = inr (both_named words command named done.0, done.1)

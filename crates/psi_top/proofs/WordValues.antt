@@ -12,7 +12,8 @@ use Rattle.std.proofs.lemmas.List.Sums.{AllPass-from_list_all, list_all-from_All
 use Rattle.hex.specs.Hex.{decode_sized, is_hex_digit}
 use Rattle.hex.specs.declared.error.FromHexError.{FromHexError}
 use Rattle.hex.proofs.HexLemmas.{IsOk-decode_sized, decode_sized-twice}
-use Rattle.psi_top.specs.Words.{are_digits, are_sizes, is_stroke, is_seed, is_session, is_stash_count, is_tag_length, number_of, seed_of}
+use Rattle.psi_top.specs.Words.{are_digits, are_sizes, is_count, is_part, is_stroke, is_seed, is_session, is_stash_count, is_tag_length, number_of, seed_of}
+use Rattle.psi_spec.specs.Limits.{limit_items}
 use Rattle.psi_spec.proofs.Lists.{same_test}
 
 -- two spellings of one test
@@ -56,6 +57,31 @@ parse_number bits most word r h d small = parse_gives numerals bits word r h d.d
 -- a number of two digits is below 100
 pub two_digits : (word : List ℕ) → HasDigits 2 word → number_of word < 100
 two_digits word d = digits_value_short numerals word 2 d.digits d.few
+
+-- a number of seven digits is below 10,000,000
+pub seven_digits : (word : List ℕ) → HasDigits 7 word → number_of word < 10000000
+seven_digits word d = digits_value_short numerals word 7 d.digits d.few
+
+-- what the form of a number of items says
+pub count_parts : (word : List ℕ) → is_count word ≡ true → HasDigits 7 word × (number_of word ≤ limit_items)
+count_parts word e =
+    let parts = both_true (are_digits 7 word) (nat_le (number_of word) limit_items) e in
+    let high : nat_le (number_of word) limit_items ≡ true = parts.1 in
+    (has_digits 7 word parts.0, grind (arith, nat_tests))
+
+-- what the form of two numbers of items says
+pub record AreCounts (whole word : List ℕ) : Type 0 where
+  pub whole_is : is_count whole ≡ true
+  pub word_is : is_count word ≡ true
+  pub within : number_of word ≤ number_of whole
+  pub few : number_of whole ≤ limit_items
+
+pub part_parts : (whole word : List ℕ) → is_part whole word ≡ true → AreCounts whole word
+part_parts whole word e =
+    let parts = both_true (is_count whole && is_count word) (nat_le (number_of word) (number_of whole)) e in
+    let counts = both_true (is_count whole) (is_count word) parts.0 in
+    let within : nat_le (number_of word) (number_of whole) ≡ true = parts.1 in
+    record { whole_is = counts.0; word_is = counts.1; within = grind (arith, nat_tests); few = (count_parts whole counts.0).1 }
 
 -- what the form of a session says
 pub session_parts : (word : List ℕ) → is_session word ≡ true → HasDigits 20 word × (number_of word < 2 ^ 64)

@@ -1,12 +1,12 @@
 -- The commands, and the forms of their words.
 use Rattle.std.specs.Prelude.{ℕ, List, map, Option, Some, None, codes, if◌then◌else◌}
 use Rattle.std.specs.Str.{bytes_eq}
-use Rattle.psi_top.specs.Words.{Form as Test, Forms, alone, are_sizes, is_name, is_output, is_seed, is_session, word_at}
+use Rattle.psi_top.specs.Words.{Form as Test, Forms, alone, are_sizes, is_count, is_name, is_output, is_seed, is_session, is_shared, word_at}
 use Rattle.psi_top.specs.declared.form.Command.{Command}
-use Rattle.psi_top.specs.declared.form.Command.TheVariants.{Deal, Local, Receive, Send}
+use Rattle.psi_top.specs.declared.form.Command.TheVariants.{Deal, Local, Make, Receive, Send, Trial}
 use Rattle.psi_top.specs.declared.form.CommandForms.{CommandForms}
 use Rattle.psi_top.specs.declared.form.Form.{Form}
-use Rattle.psi_top.specs.declared.form.Form.TheVariants.{Name, Output, Seed, Session, Sizes}
+use Rattle.psi_top.specs.declared.form.Form.TheVariants.{Count, Name, Output, Seed, Session, Shared, Sizes}
 
 -- the test that a word of this form passes, at its place among all words
 abbrev pub test_of : Form → Test
@@ -15,6 +15,8 @@ test_of (Output from to) = is_output from to
 test_of Seed = alone is_seed
 test_of Session = alone is_session
 test_of Sizes = alone are_sizes
+test_of Count = alone is_count
+test_of Shared = is_shared
 
 -- the tests of forms
 abbrev pub tests_of : List Form → List Test
@@ -30,6 +32,8 @@ name_of Deal = codes "deal"
 name_of Local = codes "local"
 name_of Send = codes "send"
 name_of Receive = codes "receive"
+name_of Make = codes "make"
+name_of Trial = codes "trial"
 
 -- the command that the first word names
 abbrev pub command_of : List (List ℕ) → Option Command
@@ -38,4 +42,6 @@ command_of words =
     else if bytes_eq (word_at words 0) (codes "deal") then Some Deal
     else if bytes_eq (word_at words 0) (codes "send") then Some Send
     else if bytes_eq (word_at words 0) (codes "receive") then Some Receive
+    else if bytes_eq (word_at words 0) (codes "make") then Some Make
+    else if bytes_eq (word_at words 0) (codes "trial") then Some Trial
     else None

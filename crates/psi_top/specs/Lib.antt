@@ -6,6 +6,7 @@ pub mod Form
 pub mod JudgedFiles
 pub mod Local
 pub mod LocalPromises
+pub mod Make
 pub mod Promises
 pub mod Receive
 pub mod ReceivePromises
@@ -14,5 +15,7 @@ pub mod SendPromises
 pub mod Texts
 pub mod Transcript
 pub mod Tree
+pub mod Trial
+pub mod TrialPromises
 pub mod Walk
 pub mod Words

@@ -16,7 +16,7 @@ use Rattle.psi_top.specs.Local.{local_receiver, local_sender, local_session, loc
 use Rattle.psi_top.specs.Promises.{IsCalm, IsSilent}
 use Rattle.psi_top.specs.ReceivePromises.{IsCrowdedSet}
 use Rattle.psi_top.specs.Tree.{End}
-use Rattle.psi_top.specs.declared.form.Command.TheVariants.{Local}
+use Rattle.psi_top.specs.declared.form.Command.TheVariants.{Local, Trial}
 use Rattle.psi_top.specs.declared.status.Status.{Status}
 use Rattle.psi_top.specs.declared.status.Status.TheVariants.{Done, BadItems, NoPlacement, FileFault, PrintFault, TooLong, NoMemory}
 
@@ -76,9 +76,13 @@ IsOfLocal known words before end =
 
 -- ---- the digest of a session
 
--- an outcome has the digest of a session only where `local` is done
-abbrev pub IsWiredByLocal : List (List ℕ) → End → Type 0
-IsWiredByLocal words end = (end.wire ≡ None) ⊎ ((command_of words ≡ Some Local) × (end.status ≡ Done))
+-- the words name a command that runs a session of both ends
+abbrev pub RunsBothEnds : List (List ℕ) → Type 0
+RunsBothEnds words = (command_of words ≡ Some Local) ⊎ (command_of words ≡ Some Trial)
+
+-- an outcome has the digest of a session only where such a command is done
+abbrev pub IsWired : List (List ℕ) → End → Type 0
+IsWired words end = (end.wire ≡ None) ⊎ (RunsBothEnds words × (end.status ≡ Done))
 
 -- ---- what it leaves
 

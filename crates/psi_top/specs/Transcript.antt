@@ -15,7 +15,7 @@ use Rattle.psi_receiver.specs.Receiving.{hits_of}
 use Rattle.psi_session.specs.Transcripts.{lists_for}
 use Rattle.psi_top.specs.Tree.{Effect, puts}
 use Rattle.psi_top.specs.declared.transcript.SessionTranscript.{SessionTranscript}
-use Rattle.psi_top.specs.declared.local.PlayedSession.{PlayedSession}
+use Rattle.psi_top.specs.declared.playing.PlayedSession.{PlayedSession}
 
 -- the bytes of a record, if there is one
 abbrev pub log_of : Option RecorderState → Option (List ℕ)
@@ -30,11 +30,13 @@ pub record WentOn (first now : SessionTranscript) (bytes : List ℕ) : Type 0 wh
   pub hash : (before : List ℕ) → Holds256 first.hasher before → Holds256 now.hasher (before ++ bytes)
   pub log : log_of now.log ≡ option_map (λ front. front ++ bytes) (log_of first.log)
 
--- the bytes of both streams: of a receiver of so many items, and of a sender of so many
-abbrev pub session_size : ReceiverDeal → ℕ → ℕ → ℕ
-session_size deal own peer =
-    39 + 512 * (7 + column_bytes (rows_for deal.stash own))
-    + (34 + (3 + deal.stash) * (10 * blocks_for peer + deal.tag_length * peer))
+-- the bytes of the stream of a receiver of so many items
+abbrev pub receiver_size : ReceiverDeal → ℕ → ℕ
+receiver_size deal own = 39 + 512 * (7 + column_bytes (rows_for deal.stash own))
+
+-- the bytes of the stream of a sender of so many, over the other half of the deal
+abbrev pub sender_size : ReceiverDeal → ℕ → ℕ
+sender_size deal peer = 34 + (3 + deal.stash) * (10 * blocks_for peer + deal.tag_length * peer)
 
 -- the session of two deals, of the receiver's items in their slots and the sender's items was run: the marks are those
 -- of the items that are hit in the sender's lists, and the transcript took all its bytes, behind the front of a record

@@ -7,7 +7,7 @@ use Rattle.std.specs.Result.{result_unwrap_or}
 use Rattle.std.specs.Str.{bytes_eq}
 use Rattle.std.specs.Str.Parse.{digits_value}
 use Rattle.hex.specs.Hex.{decode_of, is_hex_digit}
-use Rattle.psi_spec.specs.Limits.{stash_limit, usual_stash}
+use Rattle.psi_spec.specs.Limits.{limit_items, stash_limit, usual_stash}
 
 -- the word at a place, and the empty text past the end
 abbrev pub word_at : List (List ℕ) → ℕ → List ℕ
@@ -66,6 +66,14 @@ tag_length_of word = number_of (before_first is_stroke word)
 unfoldable pub stash_of : List ℕ → ℕ
 stash_of word = if list_any is_stroke word then number_of (after_first is_stroke word) else usual_stash
 
+-- a number of items: 1 to 7 digits with a value of at most 1,048,576
+abbrev pub is_count : List ℕ → Bool
+is_count word = are_digits 7 word && nat_le (number_of word) limit_items
+
+-- two numbers of items, of which the second is at most the first
+abbrev pub is_part : List ℕ → List ℕ → Bool
+is_part whole word = (is_count whole && is_count word) && nat_le (number_of word) (number_of whole)
+
 -- ---- the words of a command
 
 -- the form of a word: a test of all words at its place
@@ -85,6 +93,10 @@ is_among words word from (suc count) = bytes_eq (word_at words from) word || is_
 abbrev pub is_output : ℕ → ℕ → Form
 is_output from to words at =
     is_name (word_at words at) && not (is_among words (word_at words at) from (to - from))
+
+-- a number of items that is at most the one in the word before
+abbrev pub is_shared : Form
+is_shared words at = is_part (word_at words (at - 1)) (word_at words at)
 
 -- the forms of the words after a command's name: of those that must be there, and of those that may
 pub record Forms : Type 0 where
@@ -114,6 +126,17 @@ send_forms = record { needed = alone is_name ∷ alone is_name ∷ alone is_name
 abbrev pub receive_forms : Forms
 receive_forms = record { needed = alone is_name ∷ alone is_name ∷ alone is_name ∷ is_output 2 4 ∷ []; optional = [] }
 
+-- the forms of `make`: the number of items, of those in both files, the number of the files, and the two files
+abbrev pub make_forms : Forms
+make_forms = record {
+  needed = alone is_count ∷ is_shared ∷ alone is_session ∷ alone is_name ∷ is_output 4 5 ∷ [];
+  optional = [];
+}
+
+-- the forms of `trial`: the number of items, of those in both files, and the seed
+abbrev pub trial_forms : Forms
+trial_forms = record { needed = alone is_count ∷ is_shared ∷ alone is_seed ∷ []; optional = [] }
+
 -- the forms of the words after a command's name
 abbrev pub forms_of : List ℕ → Option Forms
 forms_of name =
@@ -121,6 +144,8 @@ forms_of name =
     else if bytes_eq name (codes "deal") then Some deal_forms
     else if bytes_eq name (codes "send") then Some send_forms
     else if bytes_eq name (codes "receive") then Some receive_forms
+    else if bytes_eq name (codes "make") then Some make_forms
+    else if bytes_eq name (codes "trial") then Some trial_forms
     else None
 
 -- the least place from `at` on whose word is out of form or one too many, where each may be missing

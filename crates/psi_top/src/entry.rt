@@ -2,18 +2,22 @@
 ghost use Rattle.psi_top.specs.Words.{bad_word};
 ghost use Rattle.psi_top.specs.Commands.{Answers};
 ghost use Rattle.psi_top.specs.Deal.{DealWrites};
-ghost use Rattle.psi_top.specs.LocalPromises.{IsOfLocal, IsWiredByLocal, LocalCompletes, LocalShows};
+ghost use Rattle.psi_top.specs.LocalPromises.{IsOfLocal, IsWired, LocalCompletes, LocalShows};
+ghost use Rattle.psi_top.specs.Make.{MakeWrites};
 ghost use Rattle.psi_top.specs.Promises.{Completes, CountsBy, DoneLeaves, IsBadWords, IsDue, IsOfCommand, OnTold, RunsThrough, StandsAt};
 ghost use Rattle.psi_top.specs.ReceivePromises.{IsOfReceive, ReceiveFinds, ReceiveServes};
 ghost use Rattle.psi_top.specs.SendPromises.{IsOfSend, SendServes};
 ghost use Rattle.psi_top.specs.Tree.{ended};
+ghost use Rattle.psi_top.specs.TrialPromises.{IsOfTrial, TrialCompletes, TrialPrints};
 
 use crate::deal::deal_command;
 use crate::form::{Command, bad_word, named_command};
 use crate::local::local_command;
+use crate::make::make_command;
 use crate::receive::receive_command;
 use crate::send::send_command;
 use crate::status::{Outcome, Status};
+use crate::trial::trial_command;
 use psi_base::{Words, World};
 use std::alloc::Global;
 
@@ -29,6 +33,8 @@ fn answer<W: World>(alloc: Global, words: &Words, world: &mut W) -> Outcome
         Some(Command::Local) => local_command(alloc, words, world),
         Some(Command::Send) => send_command(alloc, words, world),
         Some(Command::Receive) => receive_command(alloc, words, world),
+        Some(Command::Make) => make_command(alloc, words, world),
+        Some(Command::Trial) => trial_command(alloc, words, world),
         None => Outcome::of(Status::BadWords { at: 0 }),
     }
 }
@@ -79,8 +85,8 @@ pub fn run<W: World>(alloc: Global, words: &Words, world: &mut W) -> Outcome
     // session with that placement, if there is a word for it, and the outcome has the SHA-256 of the session's bytes.
     ensures shown { LocalShows W.known words.now (W.outside world.old) (ended result (W.outside world.new)) }
 
-    // No other run has such a digest.
-    ensures wire { IsWiredByLocal words.now (ended result (W.outside world.new)) }
+    // Only a run that is done and ran a session of both ends has such a digest.
+    ensures wire { IsWired words.now (ended result (W.outside world.new)) }
 
     // From valid lists and items that have a placement, `local` is done where no fault was counted or the world is
     // steady, or memory was wanting.
@@ -107,6 +113,21 @@ pub fn run<W: World>(alloc: Global, words: &Words, world: &mut W) -> Outcome
     // For an honest peer, whatever its list, `receive` prints every common item, and each other printed item shares its
     // tag with a named sender item.
     ensures found { ReceiveFinds W.known words.now (W.outside world.old) (ended result (W.outside world.new)) }
+
+    // `make` writes the two made files, and changes nothing else.
+    ensures made { MakeWrites words.now (W.outside world.old) (ended result (W.outside world.new)) }
+
+    // What `trial` may answer, in its own words: the first made list is placed, and then the text is printed. It sends
+    // and takes nothing.
+    ensures trial { IsOfTrial words.now (W.outside world.old) (ended result (W.outside world.new)) }
+
+    // Where `trial` is done, the outcome's slots are a placement of the first made list. With it `trial` printed how
+    // large the session was and how many items are shown, and the outcome has the SHA-256 of the session's bytes.
+    ensures tried { TrialPrints words.now (W.outside world.old) (ended result (W.outside world.new)) }
+
+    // From a first list that has a placement, `trial` is done where no fault was counted or the world is steady, or
+    // memory was wanting.
+    ensures through_trial { TrialCompletes words.now (W.outside world.old) (ended result (W.outside world.new)) }
 {
     answer(alloc, words, world)
 }

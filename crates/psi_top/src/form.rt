@@ -3,7 +3,7 @@ ghost use Rattle.std.specs.Prelude.{◌≡◌, ◌+◌, ◌<◌, ◌≤◌, leng
 ghost use Rattle.psi_top.specs.Words.{bad_from, bad_optional, bad_word, forms_of, is_output, word_at};
 ghost use Rattle.psi_top.specs.Form.{command_of, name_of, test_of, tests_of};
 
-use crate::values::{are_sizes, is_seed, is_session};
+use crate::values::{are_sizes, is_count, is_part, is_seed, is_session};
 use psi_base::Words;
 
 /// The commands.
@@ -17,6 +17,10 @@ pub enum Command {
     Send,
     /// The receiver's end of a session.
     Receive,
+    /// Two item files that are made by rule.
+    Make,
+    /// Both ends of a session on made lists, in one run.
+    Trial,
 }
 
 /// The form that a word must have.
@@ -34,6 +38,10 @@ pub enum Form {
     /// The length of a tag in bytes, alone or with a stroke and the number of stash rows behind it: each 1 or 2
     /// decimal digits, with a value from 1 to 16 and of at most 16.
     Sizes,
+    /// A number of items: 1 to 7 decimal digits with a value of at most 1,048,576.
+    Count,
+    /// A number of items that is at most the number in the word before.
+    Shared,
 }
 
 /// The forms of the words after a command's name.
@@ -87,6 +95,20 @@ impl Command {
                 ],
                 optional: &[],
             },
+            Command::Make => CommandForms {
+                needed: &[
+                    Form::Count,
+                    Form::Shared,
+                    Form::Session,
+                    Form::Name,
+                    Form::Output { from: 4, to: 5 },
+                ],
+                optional: &[],
+            },
+            Command::Trial => CommandForms {
+                needed: &[Form::Count, Form::Shared, Form::Seed],
+                optional: &[],
+            },
         }
     }
 }
@@ -103,6 +125,8 @@ impl Form {
             Form::Seed => is_seed(word),
             Form::Session => is_session(word),
             Form::Sizes => are_sizes(word),
+            Form::Count => is_count(word),
+            Form::Shared => is_part(word_at(words, at.saturating_sub(1)), word),
         }
     }
 }
@@ -146,6 +170,10 @@ pub fn named_command(words: &Words) -> Option<Command>
         Some(Command::Send)
     } else if name == "receive" {
         Some(Command::Receive)
+    } else if name == "make" {
+        Some(Command::Make)
+    } else if name == "trial" {
+        Some(Command::Trial)
     } else {
         None
     }

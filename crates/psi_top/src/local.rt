@@ -1,44 +1,30 @@
 // Both ends of a session in one run.
-ghost use Rattle.std.specs.Prelude.{◌≡◌, ◌≤◌, ◌∷◌, Bool, List, ℕ, IfOk, Some, None, length, map};
+ghost use Rattle.std.specs.Prelude.{◌≡◌, ◌∷◌, Bool, List, ℕ, IfOk, Some, None, length};
 ghost use Rattle.sha2.specs.Hashers.{Holds256};
 ghost use Rattle.sha2.specs.Sha256.{sha256};
 ghost use Rattle.psi_spec.specs.Deals.{ArePair, IsReceiverDeal, IsSenderDeal};
-ghost use Rattle.psi_spec.specs.Formulas.{item_digest};
-ghost use Rattle.psi_spec.specs.Limits.{bins_for, limit_items};
-ghost use Rattle.psi_spec.specs.Placement.{IsPlacementOf};
 ghost use Rattle.psi_spec.specs.Texts.{lines_text};
 ghost use Rattle.psi_top.specs.Words.{bad_word};
 ghost use Rattle.psi_top.specs.Form.{command_of};
 ghost use Rattle.psi_top.specs.Local.{local_receiver, local_sender, local_set, local_tree};
 ghost use Rattle.psi_top.specs.Receive.{marked};
-ghost use Rattle.psi_top.specs.Transcript.{IsPlayed, front_for, session_size, writes};
-ghost use Rattle.psi_top.specs.Tree.{closed, end_of, ended, ends, says, with_slots};
+ghost use Rattle.psi_top.specs.Transcript.{writes};
+ghost use Rattle.psi_top.specs.Tree.{closed, end_of, ended, ends, says};
 ghost use Rattle.psi_top.specs.Walk.{Follows, MakesAll, Runs};
-ghost use Rattle.psi_base.specs.Outside.{Outside};
 
 use crate::form::{Command, word_at};
 use crate::placing::{item_digests, place_items};
+use crate::playing::{PlayedSession, placed_outcome, play, session_length};
 use crate::showing::print_shown;
 use crate::status::{Outcome, Status, outcome_of};
 use crate::steps::{read_items, write_word};
-use crate::transcript::{SessionTranscript, begin_record};
+use crate::transcript::begin_record;
 use crate::values::{seed_of, session_of, sizes_of};
-use psi_base::{NoMemory, Words, World, rows};
-use psi_cuckoo::Placement;
+use psi_base::{NoMemory, Words, World};
 use psi_deal::{ReceiverDeal, SenderDeal, deal};
 use psi_items::Items;
 use psi_log::{Recorder, write_record};
-use psi_receiver::ReceiverCore;
-use psi_sender::SenderCore;
-use psi_session::exchange;
 use std::alloc::Global;
-
-/// A session that was run whole: the receiver's end, which tells what is shown, and the transcript.
-#[derive(Drop)]
-pub struct PlayedSession<'a> {
-    receiver: ReceiverCore<'a>,
-    transcript: SessionTranscript,
-}
 
 // The pair of deals that the words name. Words in form name no sizes that deals can't have.
 #[tactic(auto, unfolding(crate::specs::Local::local_receiver, crate::specs::Local::local_sender))]
@@ -54,46 +40,6 @@ fn local_deals(alloc: Global, words: &Words) -> Result<(ReceiverDeal, SenderDeal
     let session = session_of(word_at(words, 4));
     let (tag_length, stash) = sizes_of(word_at(words, 5));
     deal(alloc, &seed, session, tag_length, stash).map_err(|_| NoMemory)
-}
-
-// How many bytes both ends exchange: the receiver, which has so many items, and a sender of so many.
-fn session_length(deal: &ReceiverDeal, own: u32, peer: u32) -> u64
-    requires deal { IsReceiverDeal deal.now }
-    requires own { own ≤ limit_items }
-    ensures { result ≡ session_size deal.now own peer }
-{
-    let columns = 512 * (7 + u64::from(rows(own, deal.stash()).div_ceil(8)));
-    let blocks = 10 * u64::from(peer.div_ceil(1024));
-    let tags = u64::from(deal.width()) * u64::from(peer);
-    39 + columns + (34 + u64::from(3 + deal.stash()) * (blocks + tags))
-}
-
-// Runs the whole session of a pair of deals, of the receiver's placed items and the sender's items.
-fn play<'a>(
-    alloc: Global,
-    words: &Words,
-    x: &'a Items,
-    y: &Items,
-    digests: &[[u8; 32]],
-    deals: &'a (ReceiverDeal, SenderDeal),
-    placement: &'a Placement,
-) -> Result<PlayedSession<'a>, NoMemory>
-    requires digests { digests.now ≡ map item_digest x.now }
-    requires sizes { IsReceiverDeal deals.now.0 × IsSenderDeal deals.now.1 }
-    requires pair { ArePair deals.now.0 deals.now.1 }
-    requires placed { IsPlacementOf deals.now.0.stash deals.now.0.key (bins_for (length x.now)) x.now placement.now }
-    ensures { IfOk result (IsPlayed deals.now.0 deals.now.1 x.now placement.now y.now
-        (front_for words.now placement.now)) }
-{
-    let mut receiver = ReceiverCore::new(alloc, x, digests, &deals.0, placement)?;
-    let mut sender = SenderCore::new(alloc, y, &deals.1);
-    let size = session_length(&deals.0, x.len(), y.len());
-    let mut transcript = SessionTranscript::begin(begin_record(alloc, words, placement, size)?);
-    exchange(alloc, &mut receiver, &mut sender, &mut transcript)?;
-    Ok(PlayedSession {
-        receiver,
-        transcript,
-    })
 }
 
 // Writes a record, if there is one.
@@ -126,25 +72,6 @@ fn show_and_keep<W: World>(
     Ok(digest)
 }
 
-// How a run ended that placed a set: the rest of it was done, with the digest of its session, or refused.
-fn placed_outcome(placement: Placement, rest: Result<[u8; 32], Status>) -> Outcome
-    ensures { (after : Outside) → ended result after ≡ with_slots placement (closed rest after) }
-{
-    let placement = Some(placement);
-    match rest {
-        Ok(digest) => Outcome {
-            status: Status::Done,
-            placement,
-            wire: Some(digest),
-        },
-        Err(status) => Outcome {
-            status,
-            placement,
-            wire: None,
-        },
-    }
-}
-
 // What `local` does once its files are read.
 #[tactic(auto, using(crate::proofs::Walks::walk))]
 fn place_and_play<W: World>(
@@ -162,7 +89,9 @@ fn place_and_play<W: World>(
     let deals = local_deals(alloc, words)?;
     let digests = item_digests(alloc, x)?;
     let placement = place_items(alloc, 1, x, &digests, &deals.0)?;
-    let played = play(alloc, words, x, y, &digests, &deals, &placement)?;
+    let size = session_length(&deals.0, x.len(), y.len());
+    let log = begin_record(alloc, words, &placement, size)?;
+    let played = play(alloc, x, y, &digests, &deals, &placement, log)?;
     let rest = show_and_keep(words, x, played, world);
     Ok(placed_outcome(placement, rest))
 }

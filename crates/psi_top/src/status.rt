@@ -70,8 +70,8 @@ pub struct Outcome {
     /// The placement of the receiver's set, where the command placed it: None in any other command, and where the set
     /// was not placed.
     pub placement: Option<Placement>,
-    /// The SHA-256 of all bytes that both ends of a session exchanged, in the order of the wire: only where `local` is
-    /// done.
+    /// The SHA-256 of all bytes that both ends of a session exchanged, in the order of the wire: only where `local`
+    /// or `trial` is done.
     pub wire: Option<[u8; 32]>,
 }
 

@@ -1,11 +1,12 @@
 // The forms of single words, and what they say.
-ghost use Rattle.std.specs.Prelude.{◌≡◌, true};
+ghost use Rattle.std.specs.Prelude.{◌≡◌, ◌≤◌, true};
 ghost use Rattle.std.specs.Char.{is_ascii_digit};
 ghost use Rattle.std.specs.List.{list_all};
-ghost use Rattle.psi_top.specs.Words.{are_digits, are_sizes, is_seed, is_session, is_stash_count, is_tag_length, number_of, seed_of, stash_of, tag_length_of};
+ghost use Rattle.psi_spec.specs.Limits.{limit_items};
+ghost use Rattle.psi_top.specs.Words.{are_digits, are_sizes, is_count, is_part, is_seed, is_session, is_stash_count, is_tag_length, number_of, seed_of, stash_of, tag_length_of};
 
 use hex::FromHex;
-use psi_base::{STASH_LIMIT, USUAL_STASH};
+use psi_base::{LIMIT_ITEMS, STASH_LIMIT, USUAL_STASH};
 
 /// Whether the word has 64 hexadecimal digits of either case.
 pub fn is_seed(word: &str) -> bool
@@ -69,6 +70,26 @@ pub fn are_sizes(word: &str) -> bool
     }
 }
 
+/// Whether the word has 1 to 7 decimal digits with a value of at most 1,048,576.
+pub fn is_count(word: &str) -> bool
+    ensures { result ≡ is_count word.now }
+{
+    if !are_digits(word, 7) {
+        return false;
+    }
+    match word.parse::<u32>() {
+        Ok(count) => count <= LIMIT_ITEMS,
+        Err(_) => false,
+    }
+}
+
+/// Whether both words are numbers of items, and the second is at most the first.
+pub fn is_part(whole: &str, word: &str) -> bool
+    ensures { result ≡ is_part whole.now word.now }
+{
+    is_count(whole) && is_count(word) && count_of(word) <= count_of(whole)
+}
+
 /// The 32 bytes that a seed spells.
 pub fn seed_of(word: &str) -> [u8; 32]
     requires { is_seed word.now ≡ true }
@@ -113,4 +134,23 @@ pub fn sizes_of(word: &str) -> (u8, u8)
         Some((length, count)) => (number_of_tag_length(length), number_of_stash_count(count)),
         None => (number_of_tag_length(word), USUAL_STASH),
     }
+}
+
+/// The number of items that the word says.
+fn count_of(word: &str) -> u32
+    requires { is_count word.now ≡ true }
+    ensures { result ≡ number_of word.now }
+{
+    word.parse::<u32>().unwrap()
+}
+
+/// How many items each of two files has, and how many of them are in both.
+pub fn counts_of(whole: &str, part: &str) -> (u32, u32)
+    requires { is_part whole.now part.now ≡ true }
+    ensures count { result.0 ≡ number_of whole.now }
+    ensures shared { result.1 ≡ number_of part.now }
+    ensures within { result.1 ≤ result.0 }
+    ensures few { result.0 ≤ limit_items }
+{
+    (count_of(whole), count_of(part))
 }

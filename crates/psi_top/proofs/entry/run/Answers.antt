@@ -3,8 +3,10 @@ use Rattle.psi_top.proofs.Laws.{answers_bad_words, answers_complete, answers_cou
 use Rattle.psi_top.proofs.DealLaws.{answers_dealt}
 use Rattle.psi_top.proofs.HonestLaws.{answers_found}
 use Rattle.psi_top.proofs.LocalLaws.{answers_completed, answers_local, answers_shown}
+use Rattle.psi_top.proofs.MakeLaws.{answers_made}
 use Rattle.psi_top.proofs.ReceiveLaws.{answers_receive, answers_received}
 use Rattle.psi_top.proofs.SendLaws.{answers_send, answers_serve}
+use Rattle.psi_top.proofs.TrialLaws.{answers_through_trial, answers_trial, answers_tried}
 use Rattle.psi_top.proofs.Wired.{answers_wired}
 use Rattle.psi_top.proofs.entry.run.Goals as goal
 
@@ -79,3 +81,19 @@ returns-clause-received g c =
 pub returns-clause-found : goal.returns-clause-found
 returns-clause-found g c =
     answers_found g.W.World.known c.args.words.now (g.W.World.outside c.args.world.now) (ended c.answer.result (g.W.World.outside c.answer.new.world)) c.answer.ensures
+
+pub returns-clause-made : goal.returns-clause-made
+returns-clause-made g c =
+    answers_made g.W.World.known c.args.words.now (g.W.World.outside c.args.world.now) (ended c.answer.result (g.W.World.outside c.answer.new.world)) c.answer.ensures
+
+pub returns-clause-trial : goal.returns-clause-trial
+returns-clause-trial g c =
+    answers_trial g.W.World.known c.args.words.now (g.W.World.outside c.args.world.now) (ended c.answer.result (g.W.World.outside c.answer.new.world)) c.answer.ensures
+
+pub returns-clause-tried : goal.returns-clause-tried
+returns-clause-tried g c =
+    answers_tried g.W.World.known c.args.words.now (g.W.World.outside c.args.world.now) (ended c.answer.result (g.W.World.outside c.answer.new.world)) c.answer.ensures
+
+pub returns-clause-through_trial : goal.returns-clause-through_trial
+returns-clause-through_trial g c =
+    answers_through_trial g.W.World.known c.args.words.now (g.W.World.outside c.args.world.now) (ended c.answer.result (g.W.World.outside c.answer.new.world)) c.answer.ensures

@@ -1,6 +1,6 @@
-use Rattle.std.proofs.Common.{subst, sym}
+use Rattle.std.proofs.Common.{ℕ, List, Option, subst, sym}
 use Rattle.psi_top.specs.Local.{local_set}
-use Rattle.psi_top.specs.Transcript.{front_for}
+use Rattle.psi_top.specs.Transcript.{IsPlayed, log_of}
 use Rattle.psi_top.specs.Tree.{End}
 use Rattle.psi_top.specs.Walk.{Runs}
 use Rattle.psi_top.proofs.Played.{length-played, played_on}
@@ -10,7 +10,7 @@ pub show_and_keep-rest-requires : goal.show_and_keep-rest-requires
 show_and_keep-rest-requires g c =
     let deals = c.in_ok-deals.deals in
     let slots = c.in_ok-placement.placement in
-    length-played deals.0 deals.1 c.args.x.now slots c.args.y.now (front_for c.args.words.now slots) c.in_ok-played.played c.in_ok-placement.ensures.placed c.in_ok-played.ensures
+    length-played deals.0 deals.1 c.args.x.now slots c.args.y.now (log_of c.in_ok-log.log) c.in_ok-played.played c.in_ok-placement.ensures.placed c.in_ok-played.ensures
 
 pub returns : goal.returns
 returns g c =
@@ -24,4 +24,6 @@ returns g c =
     let after = g.W.World.outside c.show_and_keep-rest.new.world in
     subst (λ (end : End). Runs known words (local_set words xs ys) before end) (sym (c.placed_outcome.ensures after))
     (played_on known words xs slots ys deals.0 deals.1 c.in_ok-played.played before after c.show_and_keep-rest.result c.in_ok-deals.ensures.receiver
-    c.in_ok-deals.ensures.sender c.in_ok-placement.ensures.places c.in_ok-placement.ensures.placed c.in_ok-played.ensures c.show_and_keep-rest.ensures)
+    c.in_ok-deals.ensures.sender c.in_ok-placement.ensures.places c.in_ok-placement.ensures.placed
+    (subst (λ (front : Option (List ℕ)). IsPlayed deals.0 deals.1 xs slots ys front c.in_ok-played.played) c.in_ok-log.ensures c.in_ok-played.ensures)
+    c.show_and_keep-rest.ensures)
