@@ -1,0 +1,5 @@
+pub mod Verdicts
+pub mod Comparing
+pub mod Naming
+pub mod Searching
+pub mod Laws
