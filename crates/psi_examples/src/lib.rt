@@ -3,6 +3,8 @@
 #![tactic(auto)]
 
 #[cfg(test)]
+mod auditing;
+#[cfg(test)]
 mod dealing;
 #[cfg(test)]
 mod fault_lines;

@@ -4,14 +4,17 @@ use Rattle.std.specs.declared.result.Result.{Result}
 use Rattle.psi_spec.specs.DealFiles.{receiver_of, receiver_size, sender_of, sender_size}
 use Rattle.psi_spec.specs.Deals.{ReceiverDeal, SenderDeal}
 use Rattle.psi_spec.specs.Items.{BadLine, first_bad, items_of}
-use Rattle.psi_spec.specs.Limits.{file_limit}
+use Rattle.psi_spec.specs.Limits.{file_limit, record_limit}
 use Rattle.psi_spec.specs.Placement.{Slot}
+use Rattle.psi_spec.specs.Records.{LoggedSession, logged_of}
 use Rattle.psi_base.specs.Outside.{Known, Outside}
 use Rattle.psi_deal.specs.BadDeals.{bad_deal}
 use Rattle.psi_deal.specs.declared.errors.BadDeal.{BadDeal as DealFault}
 use Rattle.psi_items.specs.Reading.{bad_items_of}
-use Rattle.psi_top.specs.Files.{items_in, judged_items, judged_receiver, judged_sender, reads_items, reads_receiver, reads_sender, receiver_in, sender_in}
-use Rattle.psi_top.specs.JudgedFiles.{HasBadLine, HasBadReceiverDeal, HasBadSenderDeal, HasItems, HasReceiverDeal, HasSenderDeal}
+use Rattle.psi_log.specs.BadRecords.{bad_record}
+use Rattle.psi_log.specs.declared.errors.BadRecord.{BadRecord as RecordFault}
+use Rattle.psi_top.specs.Files.{items_in, judged_items, judged_receiver, judged_record, judged_sender, reads_items, reads_receiver, reads_record, reads_sender, receiver_in, record_in, sender_in}
+use Rattle.psi_top.specs.JudgedFiles.{HasBadLine, HasBadReceiverDeal, HasBadRecord, HasBadSenderDeal, HasItems, HasReceiverDeal, HasRecord, HasSenderDeal}
 use Rattle.psi_top.specs.Promises.{IsAnswered, IsSilent, IsUnread, Leaves, WasRead}
 use Rattle.psi_top.specs.Tree.{Tree, reads, decides, End}
 use Rattle.psi_top.specs.declared.status.Status.{Status}
@@ -26,24 +29,24 @@ left_decides known words (Ok x) next before end h = (x, refl, h)
 left_decides known words (Err why) next before end h = absurd h
 
 -- a run at a file that is read and judged: it was not read, memory was wanting, it was refused, or the run went on with what it holds
-pub data AtFile {A : Type 0} (known : Known) (words : List (List ℕ)) (before : Outside) (word : ℕ) (judge : List ℕ → Result A Status)
+pub data AtFile {A : Type 0} (known : Known) (words : List (List ℕ)) (before : Outside) (word limit : ℕ) (judge : List ℕ → Result A Status)
     (slots : List (List Slot)) (why : Status) (after : Outside) (Rest : A → Type 0) : Type 0 where
-  unread : IsUnread word file_limit why → IsSilent before after → slots ≡ [] → AtFile known words before word judge slots why after Rest
-  wanting : why ≡ status.NoMemory → IsSilent before after → slots ≡ [] → AtFile known words before word judge slots why after Rest
-  refused : (bytes : List ℕ) → WasRead known words before word file_limit bytes → judge bytes ≡ Err why → IsSilent before after → slots ≡ []
-      → AtFile known words before word judge slots why after Rest
-  taken_on : (bytes : List ℕ) (x : A) → WasRead known words before word file_limit bytes → judge bytes ≡ Ok x → Rest x
-      → AtFile known words before word judge slots why after Rest
+  unread : IsUnread word limit why → IsSilent before after → slots ≡ [] → AtFile known words before word limit judge slots why after Rest
+  wanting : why ≡ status.NoMemory → IsSilent before after → slots ≡ [] → AtFile known words before word limit judge slots why after Rest
+  refused : (bytes : List ℕ) → WasRead known words before word limit bytes → judge bytes ≡ Err why → IsSilent before after → slots ≡ []
+      → AtFile known words before word limit judge slots why after Rest
+  taken_on : (bytes : List ℕ) (x : A) → WasRead known words before word limit bytes → judge bytes ≡ Ok x → Rest x
+      → AtFile known words before word limit judge slots why after Rest
 
-pub answered_file : {A : Type 0} (known : Known) (words : List (List ℕ)) (word : ℕ) (judge : List ℕ → Result A Status) (next : A → Tree) (before : Outside)
-    (slots : List (List Slot)) (why : Status) (after : Outside) → IsAnswered known words false (reads word file_limit (λ bytes. decides (judge bytes) next)) before slots why after
-    → AtFile known words before word judge slots why after (λ x. IsAnswered known words false (next x) before slots why after)
+pub answered_file : {A : Type 0} (known : Known) (words : List (List ℕ)) (word limit : ℕ) (judge : List ℕ → Result A Status) (next : A → Tree) (before : Outside)
+    (slots : List (List Slot)) (why : Status) (after : Outside) → IsAnswered known words false (reads word limit (λ bytes. decides (judge bytes) next)) before slots why after
+    → AtFile known words before word limit judge slots why after (λ x. IsAnswered known words false (next x) before slots why after)
 unfolding decides
-answered_file known words word judge next before slots why after (inl h) = unread h.0 h.1 h.2
-answered_file known words word judge next before slots why after (inr h) = by_judge (judge h.0) refl h.2
+answered_file known words word limit judge next before slots why after (inl h) = unread h.0 h.1 h.2
+answered_file known words word limit judge next before slots why after (inr h) = by_judge (judge h.0) refl h.2
   where
     by_judge : (r : Result _ Status) → judge h.0 ≡ r → IsAnswered known words false (decides r next) before slots why after
-        → AtFile known words before word judge slots why after (λ x. IsAnswered known words false (next x) before slots why after)
+        → AtFile known words before word limit judge slots why after (λ x. IsAnswered known words false (next x) before slots why after)
     by_judge (Ok x) e a = taken_on h.0 x h.1 e a
     by_judge (Err verdict) e (inl s, quiet, none) = wanting s quiet none
     by_judge (Err verdict) e (inr s, quiet, none) = refused h.0 h.1 (rw s.0 e) quiet none
@@ -89,9 +92,9 @@ left_items known words word next before end h =
 
 pub answered_items : (known : Known) (words : List (List ℕ)) (word : ℕ) (next : List (List ℕ) → Tree) (before : Outside)
     (slots : List (List Slot)) (why : Status) (after : Outside) → IsAnswered known words false (reads_items word next) before slots why after
-    → AtFile known words before word (items_in word) slots why after (λ items. IsAnswered known words false (next items) before slots why after)
+    → AtFile known words before word file_limit (items_in word) slots why after (λ items. IsAnswered known words false (next items) before slots why after)
 unfolding reads_items
-answered_items known words word next before slots why after h = answered_file known words word (items_in word) next before slots why after h
+answered_items known words word next before slots why after h = answered_file known words word file_limit (items_in word) next before slots why after h
 
 -- ---- sender's deal files
 
@@ -134,9 +137,9 @@ left_sender known words word next before end h =
 
 pub answered_sender : (known : Known) (words : List (List ℕ)) (word : ℕ) (next : SenderDeal → Tree) (before : Outside)
     (slots : List (List Slot)) (why : Status) (after : Outside) → IsAnswered known words false (reads_sender word next) before slots why after
-    → AtFile known words before word (sender_in word) slots why after (λ deal. IsAnswered known words false (next deal) before slots why after)
+    → AtFile known words before word file_limit (sender_in word) slots why after (λ deal. IsAnswered known words false (next deal) before slots why after)
 unfolding reads_sender
-answered_sender known words word next before slots why after h = answered_file known words word (sender_in word) next before slots why after h
+answered_sender known words word next before slots why after h = answered_file known words word file_limit (sender_in word) next before slots why after h
 
 -- ---- receiver's deal files
 
@@ -179,6 +182,49 @@ left_receiver known words word next before end h =
 
 pub answered_receiver : (known : Known) (words : List (List ℕ)) (word : ℕ) (next : ReceiverDeal → Tree) (before : Outside)
     (slots : List (List Slot)) (why : Status) (after : Outside) → IsAnswered known words false (reads_receiver word next) before slots why after
-    → AtFile known words before word (receiver_in word) slots why after (λ deal. IsAnswered known words false (next deal) before slots why after)
+    → AtFile known words before word file_limit (receiver_in word) slots why after (λ deal. IsAnswered known words false (next deal) before slots why after)
 unfolding reads_receiver
-answered_receiver known words word next before slots why after h = answered_file known words word (receiver_in word) next before slots why after h
+answered_receiver known words word next before slots why after h = answered_file known words word file_limit (receiver_in word) next before slots why after h
+
+-- ---- record files
+
+record_good : (bytes : List ℕ) (log : LoggedSession) → record_in bytes ≡ Ok log → (bad_record bytes ≡ None) × (log ≡ logged_of bytes)
+unfolding record_in
+record_good bytes log e = by_fault (bad_record bytes) refl e
+  where
+    by_fault : (fault : Option RecordFault) → bad_record bytes ≡ fault → judged_record bytes fault ≡ Ok log → (bad_record bytes ≡ None) × (log ≡ logged_of bytes)
+    by_fault None f e = (f, let g : Ok (logged_of bytes) ≡ Ok log = e in cc g)
+    by_fault (Some fault) f e = cc e
+
+pub record_bad : (bytes : List ℕ) (why : Status) → record_in bytes ≡ Err why → (fault : RecordFault) × (bad_record bytes ≡ Some fault) × (why ≡ status.BadRecord fault)
+unfolding record_in
+record_bad bytes why e = by_fault (bad_record bytes) refl e
+  where
+    by_fault : (fault : Option RecordFault) → bad_record bytes ≡ fault → judged_record bytes fault ≡ Err why
+        → (fault : RecordFault) × (bad_record bytes ≡ Some fault) × (why ≡ status.BadRecord fault)
+    by_fault None f e = cc e
+    by_fault (Some fault) f e = (fault, f, cc e)
+
+pub has_record : (known : Known) (words : List (List ℕ)) (before : Outside) (word : ℕ) (bytes : List ℕ) (log : LoggedSession)
+    → WasRead known words before word record_limit bytes → record_in bytes ≡ Ok log → HasRecord known words before word log
+has_record known words before word bytes log read e =
+    let good = record_good bytes log e in
+    record { bytes = bytes; read = read; good = good.0; spelled = good.1 }
+
+pub has_bad_record : (known : Known) (words : List (List ℕ)) (before : Outside) (word : ℕ) (bytes : List ℕ) (fault : RecordFault)
+    → WasRead known words before word record_limit bytes → bad_record bytes ≡ Some fault → HasBadRecord known words before word fault
+has_bad_record known words before word bytes fault read e = record { bytes = bytes; read = read; bad = e }
+
+pub left_record : (known : Known) (words : List (List ℕ)) (word : ℕ) (next : LoggedSession → Tree) (before : Outside) (end : End)
+    → Leaves known words (reads_record word next) before end
+    → (log : LoggedSession) × HasRecord known words before word log × Leaves known words (next log) before end
+unfolding reads_record
+left_record known words word next before end h =
+    let read = left_decides known words (record_in h.0) next before end h.2 in
+    (read.0, has_record known words before word h.0 read.0 h.1 read.1, read.2)
+
+pub answered_record : (known : Known) (words : List (List ℕ)) (word : ℕ) (next : LoggedSession → Tree) (before : Outside)
+    (slots : List (List Slot)) (why : Status) (after : Outside) → IsAnswered known words false (reads_record word next) before slots why after
+    → AtFile known words before word record_limit record_in slots why after (λ log. IsAnswered known words false (next log) before slots why after)
+unfolding reads_record
+answered_record known words word next before slots why after h = answered_file known words word record_limit record_in next before slots why after h

@@ -1,4 +1,6 @@
 pub mod Answered
+pub mod AuditLaws
+pub mod CollisionLines
 pub mod Counted
 pub mod DealLaws
 pub mod DealWords
@@ -26,6 +28,7 @@ pub mod StreamLists
 pub mod TrialLaws
 pub mod TrialPlayed
 pub mod Unplaced
+pub mod Verdicts
 pub mod Walked
 pub mod Walks
 pub mod Wired

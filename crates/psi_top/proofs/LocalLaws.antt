@@ -186,7 +186,7 @@ of_set known words before xs ys first second (chosen ∷ rest) why after a =
     (of_end known words before (chosen ∷ rest) (local_text words xs chosen ys) (record_file chosen (local_session words xs chosen ys)) was why end.0, end.1)
 
 of_second : (known : Known) (words : List (List ℕ)) (before : Outside) (xs : List (List ℕ)) → HasItems known words before 1 xs → (slots : List (List Slot)) (why : Status) (after : Outside)
-    → AtFile known words before 2 (items_in 2) slots why after (λ ys. IsAnswered known words false (local_set words xs ys) before slots why after)
+    → AtFile known words before 2 file_limit (items_in 2) slots why after (λ ys. IsAnswered known words false (local_set words xs ys) before slots why after)
     → Answered known words before slots why after
 unfolding Answered
 of_second known words before xs first slots why after (unread h quiet none) = (second_unread known words before slots xs first why h none, quiet)
@@ -199,7 +199,7 @@ of_second known words before xs first slots why after (taken_on bytes ys read e 
     of_set known words before xs ys first (has_items known words before 2 bytes ys read e) slots why after a
 
 of_first : (known : Known) (words : List (List ℕ)) (before : Outside) (slots : List (List Slot)) (why : Status) (after : Outside)
-    → AtFile known words before 1 (items_in 1) slots why after (λ xs. IsAnswered known words false (reads_items 2 (λ ys. local_set words xs ys)) before slots why after)
+    → AtFile known words before 1 file_limit (items_in 1) slots why after (λ xs. IsAnswered known words false (reads_items 2 (λ ys. local_set words xs ys)) before slots why after)
     → Answered known words before slots why after
 unfolding Answered
 of_first known words before slots why after (unread h quiet none) = (first_unread known words before slots why h none, quiet)

@@ -321,7 +321,7 @@ of_place known words before xs deal x_file r_file (slots ∷ rest) why after don
 
 of_second : (known : Known) (words : List (List ℕ)) (before : Outside) (xs : List (List ℕ)) → HasItems known words before 2 xs → (placed : List (List Slot)) (why : Status)
     (after : Outside) → (why ≡ status.Done → ReceiveAnswers known words before placed why after)
-    → AtFile known words before 3 (receiver_in 3) placed why after
+    → AtFile known words before 3 file_limit (receiver_in 3) placed why after
     (λ deal. IsAnswered known words false (places 2 (placing_of deal xs) (λ slots. receive_rest xs deal slots)) before placed why after)
     → ReceiveAnswers known words before placed why after
 of_second known words before xs x_file placed why after done (unread h quiet none) = second_unread known words before (xs, x_file) placed why after h quiet none
@@ -335,7 +335,7 @@ of_second known words before xs x_file placed why after done (taken_on bytes dea
 
 of_first : (known : Known) (words : List (List ℕ)) (before : Outside) (placed : List (List Slot)) (why : Status) (after : Outside)
     → (why ≡ status.Done → ReceiveAnswers known words before placed why after)
-    → AtFile known words before 2 (items_in 2) placed why after
+    → AtFile known words before 2 file_limit (items_in 2) placed why after
     (λ xs. IsAnswered known words false (reads_receiver 3 (λ deal. places 2 (placing_of deal xs) (λ slots. receive_rest xs deal slots))) before placed why after)
     → ReceiveAnswers known words before placed why after
 of_first known words before placed why after done (unread h quiet none) = first_unread known words before placed why after h quiet none
@@ -357,7 +357,7 @@ answers_receive known words before end h = λ fit named.
 
 -- ---- an honest peer is heard
 
-receiver_ready : (word : ℕ) (deal : ReceiverDeal) → IsReceiverDeal deal → receiver_in word (receiver_bytes deal) ≡ Ok deal
+pub receiver_ready : (word : ℕ) (deal : ReceiverDeal) → IsReceiverDeal deal → receiver_in word (receiver_bytes deal) ≡ Ok deal
 unfolding receiver_in
 receiver_ready word deal is =
     let none : bad_deal 0 receiver_size (receiver_bytes deal) ≡ None = none_from_good 0 receiver_size (receiver_bytes deal) (receiver_file_is_good deal is) in

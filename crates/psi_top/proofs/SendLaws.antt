@@ -40,8 +40,8 @@ use Rattle.psi_top.proofs.Unplaced.{PlacesNone, items_place_none, none_is_placed
 -- ---- the session
 
 -- the deal of a file that was read and judged
-deal_of : (known : Known) (words : List (List ℕ)) (before : Outside) (word : ℕ) (deal : SenderDeal) → HasSenderDeal known words before word deal → IsSenderDeal deal
-deal_of known words before word deal h =
+pub sender_deal_of : (known : Known) (words : List (List ℕ)) (before : Outside) (word : ℕ) (deal : SenderDeal) → HasSenderDeal known words before word deal → IsSenderDeal deal
+sender_deal_of known words before word deal h =
     subst IsSenderDeal (sym h.spelled) (good_sender h.bytes h.read.are_bytes (good_from_none 1 sender_size h.bytes h.good))
 
 -- a session that read well took a receiver's stream, and sent the sender's for it
@@ -71,7 +71,7 @@ send_leaves known words before end h =
       deal = s.0;
       y_file = y.1;
       s_file = s.1;
-      fact = served_well known before y.0 s.0 session.0 end.left (deal_of known words before 3 s.0 s.1) session.1 session.2 (ap (λ (d : End). d.left) session.3);
+      fact = served_well known before y.0 s.0 session.0 end.left (sender_deal_of known words before 3 s.0 s.1) session.1 session.2 (ap (λ (d : End). d.left) session.3);
     }
 
 -- ---- what `send` may answer
@@ -161,7 +161,7 @@ of_rest known words before ys deal y_file s_file slots why after done (inr h) = 
 
 of_second : (known : Known) (words : List (List ℕ)) (before : Outside) (ys : List (List ℕ)) → HasItems known words before 2 ys → (slots : List (List Slot)) (why : Status) (after : Outside)
     → (why ≡ status.Done → SendAnswers known words before why after)
-    → AtFile known words before 3 (sender_in 3) slots why after (λ deal. IsAnswered known words false (send_rest ys deal) before slots why after) → SendAnswers known words before why after
+    → AtFile known words before 3 file_limit (sender_in 3) slots why after (λ deal. IsAnswered known words false (send_rest ys deal) before slots why after) → SendAnswers known words before why after
 of_second known words before ys y_file slots why after done (unread h quiet none) = second_unread known words before (ys, y_file) why after h quiet
 of_second known words before ys y_file slots why after done (wanting s quiet none) = wanted known words before why after s quiet
 of_second known words before ys y_file slots why after done (refused bytes read e quiet none) =
@@ -172,7 +172,7 @@ of_second known words before ys y_file slots why after done (taken_on bytes deal
     of_rest known words before ys deal y_file (has_sender known words before 3 bytes deal read e) slots why after done a
 
 of_first : (known : Known) (words : List (List ℕ)) (before : Outside) (slots : List (List Slot)) (why : Status) (after : Outside) → (why ≡ status.Done → SendAnswers known words before why after)
-    → AtFile known words before 2 (items_in 2) slots why after (λ ys. IsAnswered known words false (reads_sender 3 (λ deal. send_rest ys deal)) before slots why after)
+    → AtFile known words before 2 file_limit (items_in 2) slots why after (λ ys. IsAnswered known words false (reads_sender 3 (λ deal. send_rest ys deal)) before slots why after)
     → SendAnswers known words before why after
 of_first known words before slots why after done (unread h quiet none) = first_unread known words before why after h quiet
 of_first known words before slots why after done (wanting s quiet none) = wanted known words before why after s quiet
@@ -204,7 +204,7 @@ pub items_ready : (words : List (List ℕ)) (bytes : List ℕ) (word : ℕ) → 
 unfolding items_in
 items_ready words bytes word none = rw none refl
 
-sender_ready : (word : ℕ) (deal : SenderDeal) → IsSenderDeal deal → sender_in word (sender_bytes deal) ≡ Ok deal
+pub sender_ready : (word : ℕ) (deal : SenderDeal) → IsSenderDeal deal → sender_in word (sender_bytes deal) ≡ Ok deal
 unfolding sender_in
 sender_ready word deal is =
     let none : bad_deal 1 sender_size (sender_bytes deal) ≡ None = none_from_good 1 sender_size (sender_bytes deal) (sender_file_is_good deal is) in

@@ -5,14 +5,15 @@ use Rattle.psi_spec.specs.Placement.{Slot}
 use Rattle.psi_top.specs.Words.{bad_word, word_at}
 use Rattle.psi_base.specs.Outside.{Known, Outside, Writes, PrintsAll, Opens}
 use Rattle.psi_frames.specs.Dialogue.{Talks}
+use Rattle.psi_top.specs.Audit.{audit_record, audit_tree, findings_of}
 use Rattle.psi_top.specs.Commands.{Answers, AnswersBy, tree_of}
-use Rattle.psi_top.specs.Files.{items_in, reads_items, reads_receiver, reads_sender, receiver_in, sender_in}
+use Rattle.psi_top.specs.Files.{items_in, reads_items, reads_receiver, reads_record, reads_sender, receiver_in, record_in, sender_in}
 use Rattle.psi_top.specs.Form.{command_of}
 use Rattle.psi_top.specs.LocalPromises.{IsWired, RunsBothEnds}
 use Rattle.psi_top.specs.Tree.{Effect, says, puts, Placing, Tree, reads, refuses, places, opens, talks, ends, decides, End, stopped}
 use Rattle.psi_top.specs.Walk.{AtCall, AtPlace, AtRefusal, AtEnd, starved, cut, passed, hungry, crowded, placed, given_up, refused, gave_up, all_done, Does, Follows, Gives, read_status, write_status, print_status, open_status, talk_status}
 use Rattle.psi_top.specs.declared.form.Command.{Command}
-use Rattle.psi_top.specs.declared.form.Command.TheVariants.{Deal, Local, Make, Receive, Send, Trial}
+use Rattle.psi_top.specs.declared.form.Command.TheVariants.{Audit, Deal, Local, Make, Receive, Send, Trial}
 use Rattle.psi_top.specs.declared.status.Status.{Status}
 use Rattle.psi_top.specs.declared.status.Status.TheVariants as status
 
@@ -99,6 +100,17 @@ items_wired : (may : Bool) (word : ℕ) (next : List (List ℕ) → Tree) → ((
 unfolding MayBeWired reads_items
 items_wired may word next h = λ bytes. decides_wired may (items_in word bytes) next h
 
+deals_wired : (xs ys : List (List ℕ)) → MayBeWired false (reads_receiver 3 (λ receiver. reads_sender 4 (λ sender. audit_record receiver sender xs ys)))
+unfolding MayBeWired reads_receiver reads_sender reads_record
+deals_wired xs ys =
+    λ r_bytes. decides_wired false (receiver_in 3 r_bytes) _
+    (λ receiver s_bytes. decides_wired false (sender_in 4 s_bytes) _
+    (λ sender bytes. decides_wired false (record_in bytes) _
+    (λ log. decides_wired false (findings_of receiver sender xs ys log) _ (λ found. inr refl))))
+
+audit_wired : MayBeWired false audit_tree
+audit_wired = items_wired false 1 _ (λ xs. items_wired false 2 _ (λ ys. deals_wired xs ys))
+
 -- whether a command runs a session of both ends
 runs_both : Command → Bool
 runs_both Local = true
@@ -114,6 +126,7 @@ tree_wired Local words = items_wired true 1 _ (λ xs. items_wired true 2 _ (λ y
 tree_wired Send words = λ y_bytes. decides_wired false (items_in 2 y_bytes) _ (λ ys s_bytes. decides_wired false (sender_in 3 s_bytes) _ (λ deal bytes. inr refl))
 tree_wired Receive words =
     λ x_bytes. decides_wired false (items_in 2 x_bytes) _ (λ xs r_bytes. decides_wired false (receiver_in 3 r_bytes) _ (λ deal slots bytes. inr refl))
+tree_wired Audit words = audit_wired
 
 -- the words of such a command name it
 both_named : (words : List (List ℕ)) (command : Command) → command_of words ≡ Some command → runs_both command ≡ true → RunsBothEnds words
@@ -124,6 +137,7 @@ both_named words Deal named e = cc e
 both_named words Send named e = cc e
 both_named words Receive named e = cc e
 both_named words Make named e = cc e
+both_named words Audit named e = cc e
 
 pub answers_wired : (known : Known) (words : List (List ℕ)) (before : Outside) (end : End) → Answers known words before end → IsWired words end
 unfolding MayHave

@@ -2,6 +2,7 @@
 use Rattle.std.specs.Prelude.{◌≡◌, ℕ, List, Option, Some, None}
 use Rattle.psi_top.specs.Words.{bad_word}
 use Rattle.psi_base.specs.Outside.{Known, Outside}
+use Rattle.psi_top.specs.Audit.{audit_tree}
 use Rattle.psi_top.specs.Deal.{deal_tree}
 use Rattle.psi_top.specs.Form.{command_of}
 use Rattle.psi_top.specs.Local.{local_tree}
@@ -12,7 +13,7 @@ use Rattle.psi_top.specs.Tree.{Tree, End, stopped}
 use Rattle.psi_top.specs.Trial.{trial_tree}
 use Rattle.psi_top.specs.Walk.{Runs}
 use Rattle.psi_top.specs.declared.form.Command.{Command}
-use Rattle.psi_top.specs.declared.form.Command.TheVariants.{Deal, Local, Make, Receive, Send, Trial}
+use Rattle.psi_top.specs.declared.form.Command.TheVariants.{Audit, Deal, Local, Make, Receive, Send, Trial}
 use Rattle.psi_top.specs.declared.status.Status.TheVariants.{BadWords}
 
 -- the steps of a command with these words
@@ -23,6 +24,7 @@ tree_of Send words = send_tree
 tree_of Receive words = receive_tree
 tree_of Make words = make_tree words
 tree_of Trial words = trial_tree words
+tree_of Audit words = audit_tree
 
 -- what a run may answer, by the bad place of its words and the command that they name
 abbrev pub AnswersBy : Known → List (List ℕ) → Outside → End → Option ℕ → Option Command → Type 0

@@ -1,15 +1,18 @@
 -- The files that commands read.
 use Rattle.std.specs.Prelude.{ℕ, List, Option, None, Some, Result, Ok, Err}
 use Rattle.psi_spec.specs.Items.{BadLine, items_of, first_bad}
-use Rattle.psi_spec.specs.Limits.{file_limit}
+use Rattle.psi_spec.specs.Limits.{file_limit, record_limit}
 use Rattle.psi_spec.specs.DealFiles.{receiver_of, receiver_size, sender_of, sender_size}
 use Rattle.psi_spec.specs.Deals.{ReceiverDeal, SenderDeal}
+use Rattle.psi_spec.specs.Records.{LoggedSession, logged_of}
 use Rattle.psi_deal.specs.BadDeals.{bad_deal}
 use Rattle.psi_deal.specs.declared.errors.BadDeal.{BadDeal as DealFault}
 use Rattle.psi_items.specs.Reading.{bad_items_of}
+use Rattle.psi_log.specs.BadRecords.{bad_record}
+use Rattle.psi_log.specs.declared.errors.BadRecord.{BadRecord as RecordFault}
 use Rattle.psi_top.specs.Tree.{Tree, reads, decides}
 use Rattle.psi_top.specs.declared.status.Status.{Status}
-use Rattle.psi_top.specs.declared.status.Status.TheVariants.{BadDeal, BadItems}
+use Rattle.psi_top.specs.declared.status.Status.TheVariants.{BadDeal, BadItems, BadRecord}
 
 -- the items of the file of a word, or the fault of its first bad line
 abbrev pub judged_items : ℕ → List ℕ → Option BadLine → Result (List (List ℕ)) Status
@@ -46,3 +49,15 @@ receiver_in word bytes = judged_receiver word bytes (bad_deal 0 receiver_size by
 -- the steps that read the receiver's deal file of a word and judge it
 unfoldable pub reads_receiver : ℕ → (ReceiverDeal → Tree) → Tree
 reads_receiver word next = reads word file_limit (λ bytes. decides (receiver_in word bytes) next)
+
+-- what the record file spells, or why it is none
+abbrev pub judged_record : List ℕ → Option RecordFault → Result LoggedSession Status
+judged_record bytes None = Ok (logged_of bytes)
+judged_record bytes (Some fault) = Err (BadRecord fault)
+
+unfoldable pub record_in : List ℕ → Result LoggedSession Status
+record_in bytes = judged_record bytes (bad_record bytes)
+
+-- the steps that read the record file of a word and judge it
+unfoldable pub reads_record : ℕ → (LoggedSession → Tree) → Tree
+reads_record word next = reads word record_limit (λ bytes. decides (record_in bytes) next)

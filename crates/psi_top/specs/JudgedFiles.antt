@@ -3,12 +3,15 @@ use Rattle.std.specs.Prelude.{◌≡◌, ℕ, List, None, Some}
 use Rattle.psi_spec.specs.DealFiles.{receiver_of, receiver_size, sender_of, sender_size}
 use Rattle.psi_spec.specs.Deals.{ReceiverDeal, SenderDeal}
 use Rattle.psi_spec.specs.Items.{BadLine, first_bad, items_of}
-use Rattle.psi_spec.specs.Limits.{file_limit}
+use Rattle.psi_spec.specs.Limits.{file_limit, record_limit}
+use Rattle.psi_spec.specs.Records.{LoggedSession, logged_of}
 use Rattle.psi_base.specs.Outside.{Known, Outside}
 use Rattle.psi_deal.specs.BadDeals.{bad_deal}
 use Rattle.psi_deal.specs.declared.errors.BadDeal.{BadDeal}
 use Rattle.psi_items.specs.Reading.{bad_items_of}
 use Rattle.psi_items.specs.declared.errors.BadItems.{BadItems}
+use Rattle.psi_log.specs.BadRecords.{bad_record}
+use Rattle.psi_log.specs.declared.errors.BadRecord.{BadRecord}
 use Rattle.psi_top.specs.Promises.{WasRead}
 
 -- the item file of a word was read and has no line with a fault, and these are its items
@@ -57,3 +60,18 @@ pub record HasBadReceiverDeal (known : Known) (words : List (List ℕ)) (before 
   pub bytes : List ℕ
   pub read : WasRead known words before word file_limit bytes
   pub bad : bad_deal 0 receiver_size bytes ≡ Some fault
+
+-- the record file of a word was read, and this is the session that it holds
+pub record HasRecord (known : Known) (words : List (List ℕ)) (before : Outside) (word : ℕ) (log : LoggedSession)
+    : Type 0 where
+  pub bytes : List ℕ
+  pub read : WasRead known words before word record_limit bytes
+  pub good : bad_record bytes ≡ None
+  pub spelled : log ≡ logged_of bytes
+
+-- the file of a word was read and is no record, first for this reason
+pub record HasBadRecord (known : Known) (words : List (List ℕ)) (before : Outside) (word : ℕ) (fault : BadRecord)
+    : Type 0 where
+  pub bytes : List ℕ
+  pub read : WasRead known words before word record_limit bytes
+  pub bad : bad_record bytes ≡ Some fault

@@ -1,3 +1,5 @@
+pub mod Audit
+pub mod AuditPromises
 pub mod Commands
 pub mod Deal
 pub mod Due

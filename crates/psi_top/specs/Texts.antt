@@ -4,10 +4,16 @@ use Rattle.psi_items.specs.declared.errors.BadItems.{BadItems}
 use Rattle.psi_items.specs.declared.errors.BadItems.TheVariants as items
 use Rattle.psi_deal.specs.declared.errors.BadDeal.{BadDeal}
 use Rattle.psi_deal.specs.declared.errors.BadDeal.TheVariants as deal
+use Rattle.psi_cuckoo.specs.declared.errors.BadSlots.{BadSlots as SlotsFault}
+use Rattle.psi_cuckoo.specs.declared.errors.BadSlots.TheVariants as slots
+use Rattle.psi_deal.specs.declared.errors.DealField.{DealField}
+use Rattle.psi_deal.specs.declared.errors.DealField.TheVariants as deal_field
 use Rattle.psi_frames.specs.Expected.{number_of_reason}
 use Rattle.psi_frames.specs.declared.reasons.BadFrame.{BadFrame as RefusedFrame}
+use Rattle.psi_log.specs.declared.errors.BadRecord.{BadRecord as RecordFault}
+use Rattle.psi_log.specs.declared.errors.BadRecord.TheVariants as record_fault
 use Rattle.psi_top.specs.declared.status.Status.{Status}
-use Rattle.psi_top.specs.declared.status.Status.TheVariants.{Done, BadWords, BadItems as RefusedItems, BadDeal as RefusedDeal, NoPlacement, BadFrame, PeerEnded, FileFault, LinkFault, PrintFault, TooLong, NoMemory}
+use Rattle.psi_top.specs.declared.status.Status.TheVariants.{Done, BadWords, BadItems as RefusedItems, BadDeal as RefusedDeal, NoPlacement, BadFrame, PeerEnded, Differs, BadSlots, BadRecord, FileFault, LinkFault, PrintFault, TooLong, DealsDiffer, NoMemory}
 
 -- the number of a status
 abbrev pub number_of_status : Status → ℕ
@@ -18,10 +24,14 @@ number_of_status (RefusedDeal word fault) = 4
 number_of_status (NoPlacement word items touched) = 5
 number_of_status (BadFrame frame) = 6
 number_of_status (PeerEnded offset) = 7
+number_of_status (Differs offset found wanted) = 8
+number_of_status (BadSlots fault) = 8
+number_of_status (BadRecord fault) = 9
 number_of_status (FileFault word) = 10
 number_of_status LinkFault = 11
 number_of_status PrintFault = 12
 number_of_status (TooLong word taken) = 13
+number_of_status (DealsDiffer field) = 14
 number_of_status NoMemory = 70
 
 -- how a line about the file of a word begins
@@ -71,6 +81,38 @@ frame_text frame =
     codes "psi: frame at " ++ decimal frame.offset ++ codes ": reason " ++ decimal (number_of_reason frame.reason)
     ++ codes "\n"
 
+-- the line of a record that differs from its session
+abbrev pub difference_text : ℕ → ℕ → ℕ → List ℕ
+difference_text offset found wanted =
+    codes "psi: record differs at " ++ decimal offset ++ codes ": " ++ decimal found ++ codes " not " ++ decimal wanted
+    ++ codes "\n"
+
+-- the line of recorded slots that are no placement
+abbrev pub slots_text : SlotsFault → List ℕ
+slots_text slots.NoMemory = no_memory_text
+slots_text _ = codes "psi: record slots\n"
+
+-- the line of a fault of a record file
+abbrev pub record_text : RecordFault → List ℕ
+record_text record_fault.Magic = codes "psi: not a record file\n"
+record_text (record_fault.Version found) = codes "psi: record version " ++ decimal found ++ codes "\n"
+record_text (record_fault.Short offset) = codes "psi: record short at " ++ decimal offset ++ codes "\n"
+record_text (record_fault.Kind offset found) =
+    codes "psi: record kind " ++ decimal found ++ codes " at " ++ decimal offset
+    ++ codes "\n"
+record_text record_fault.Seal = codes "psi: record seal\n"
+record_text (record_fault.Trailing offset) = codes "psi: record trailing at " ++ decimal offset ++ codes "\n"
+record_text record_fault.NoMemory = no_memory_text
+
+-- the line of two deals that are no pair
+abbrev pub field_text : DealField → List ℕ
+field_text deal_field.Id = codes "psi: deals differ in id\n"
+field_text deal_field.Session = codes "psi: deals differ in session\n"
+field_text deal_field.Key = codes "psi: deals differ in key\n"
+field_text deal_field.TagBytes = codes "psi: deals differ in tag bytes\n"
+field_text deal_field.StashRows = codes "psi: deals differ in stash\n"
+field_text (deal_field.Seed column) = codes "psi: deals differ in column " ++ decimal column ++ codes "\n"
+
 -- the line that names a status's fault, with a line feed; nothing where the run is done
 abbrev pub fault_text : Status → List ℕ
 fault_text Done = []
@@ -80,8 +122,12 @@ fault_text (RefusedDeal word fault) = deal_text word fault
 fault_text (NoPlacement word items touched) = crowded_text word (length items) touched
 fault_text (BadFrame frame) = frame_text frame
 fault_text (PeerEnded offset) = codes "psi: peer ended at " ++ decimal offset ++ codes "\n"
+fault_text (Differs offset found wanted) = difference_text offset found wanted
+fault_text (BadSlots fault) = slots_text fault
+fault_text (BadRecord fault) = record_text fault
 fault_text (FileFault word) = word_front word ++ codes "file fault\n"
 fault_text LinkFault = codes "psi: link fault\n"
 fault_text PrintFault = codes "psi: print fault\n"
 fault_text (TooLong word taken) = too_long_text word taken
+fault_text (DealsDiffer field) = field_text field
 fault_text NoMemory = no_memory_text

@@ -44,6 +44,10 @@ talk_status peer.NoMemory = status.NoMemory
 abbrev pub IsVerdict : Status → Type 0
 IsVerdict (status.BadItems word why) = Unit {0}
 IsVerdict (status.BadDeal word why) = Unit {0}
+IsVerdict (status.Differs offset found wanted) = Unit {0}
+IsVerdict (status.BadSlots why) = Unit {0}
+IsVerdict (status.BadRecord why) = Unit {0}
+IsVerdict (status.DealsDiffer field) = Unit {0}
 IsVerdict _ = ⊥
 
 -- what a read of a file may answer and leave: what it gives are bytes

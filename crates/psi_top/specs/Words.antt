@@ -137,6 +137,13 @@ make_forms = record {
 abbrev pub trial_forms : Forms
 trial_forms = record { needed = alone is_count ∷ is_shared ∷ alone is_seed ∷ []; optional = [] }
 
+-- the forms of `audit`: both item files, both deal files and the record
+abbrev pub audit_forms : Forms
+audit_forms = record {
+  needed = alone is_name ∷ alone is_name ∷ alone is_name ∷ alone is_name ∷ alone is_name ∷ [];
+  optional = [];
+}
+
 -- the forms of the words after a command's name
 abbrev pub forms_of : List ℕ → Option Forms
 forms_of name =
@@ -146,6 +153,7 @@ forms_of name =
     else if bytes_eq name (codes "receive") then Some receive_forms
     else if bytes_eq name (codes "make") then Some make_forms
     else if bytes_eq name (codes "trial") then Some trial_forms
+    else if bytes_eq name (codes "audit") then Some audit_forms
     else None
 
 -- the least place from `at` on whose word is out of form or one too many, where each may be missing

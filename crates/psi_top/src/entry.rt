@@ -1,5 +1,6 @@
 // The top call.
 ghost use Rattle.psi_top.specs.Words.{bad_word};
+ghost use Rattle.psi_top.specs.AuditPromises.{AuditCompletes, IsOfAudit};
 ghost use Rattle.psi_top.specs.Commands.{Answers};
 ghost use Rattle.psi_top.specs.Deal.{DealWrites};
 ghost use Rattle.psi_top.specs.LocalPromises.{IsOfLocal, IsWired, LocalCompletes, LocalShows};
@@ -10,6 +11,7 @@ ghost use Rattle.psi_top.specs.SendPromises.{IsOfSend, SendServes};
 ghost use Rattle.psi_top.specs.Tree.{ended};
 ghost use Rattle.psi_top.specs.TrialPromises.{IsOfTrial, TrialCompletes, TrialPrints};
 
+use crate::audit::audit_command;
 use crate::deal::deal_command;
 use crate::form::{Command, bad_word, named_command};
 use crate::local::local_command;
@@ -35,6 +37,7 @@ fn answer<W: World>(alloc: Global, words: &Words, world: &mut W) -> Outcome
         Some(Command::Receive) => receive_command(alloc, words, world),
         Some(Command::Make) => make_command(alloc, words, world),
         Some(Command::Trial) => trial_command(alloc, words, world),
+        Some(Command::Audit) => audit_command(alloc, words, world),
         None => Outcome::of(Status::BadWords { at: 0 }),
     }
 }
@@ -128,6 +131,15 @@ pub fn run<W: World>(alloc: Global, words: &Words, world: &mut W) -> Outcome
     // From a first list that has a placement, `trial` is done where no fault was counted or the world is steady, or
     // memory was wanting.
     ensures through_trial { TrialCompletes words.now (W.outside world.old) (ended result (W.outside world.new)) }
+
+    // What `audit` may answer, in its own words: its files are judged in order, then the deals, the recorded slots and
+    // the recorded frames. Where it is done the deals are a pair, the slots are a placement of the receiver's items,
+    // the frames are those of the session with it, and the text of what is shown and of each collision was printed.
+    ensures audited { IsOfAudit W.known words.now (W.outside world.old) (ended result (W.outside world.new)) }
+
+    // From valid lists, a pair of deals and a record of their session, `audit` is done where no fault was counted or
+    // the world is steady, or memory was wanting.
+    ensures consistent { AuditCompletes words.now (W.outside world.old) (ended result (W.outside world.new)) }
 {
     answer(alloc, words, world)
 }

@@ -21,6 +21,8 @@ pub enum Command {
     Make,
     /// Both ends of a session on made lists, in one run.
     Trial,
+    /// A recorded session, judged by the inputs of both ends.
+    Audit,
 }
 
 /// The form that a word must have.
@@ -53,6 +55,64 @@ pub struct CommandForms {
     pub optional: &'static [Form],
 }
 
+const DEAL: CommandForms = CommandForms {
+    needed: &[
+        Form::Seed,
+        Form::Session,
+        Form::Sizes,
+        Form::Name,
+        Form::Output { from: 4, to: 5 },
+    ],
+    optional: &[],
+};
+
+const LOCAL: CommandForms = CommandForms {
+    needed: &[
+        Form::Name,
+        Form::Name,
+        Form::Seed,
+        Form::Session,
+        Form::Sizes,
+    ],
+    optional: &[Form::Output { from: 1, to: 3 }],
+};
+
+const SEND: CommandForms = CommandForms {
+    needed: &[Form::Name, Form::Name, Form::Name],
+    optional: &[],
+};
+
+const RECEIVE: CommandForms = CommandForms {
+    needed: &[
+        Form::Name,
+        Form::Name,
+        Form::Name,
+        Form::Output { from: 2, to: 4 },
+    ],
+    optional: &[],
+};
+
+const MAKE: CommandForms = CommandForms {
+    needed: &[
+        Form::Count,
+        Form::Shared,
+        Form::Session,
+        Form::Name,
+        Form::Output { from: 4, to: 5 },
+    ],
+    optional: &[],
+};
+
+const TRIAL: CommandForms = CommandForms {
+    needed: &[Form::Count, Form::Shared, Form::Seed],
+    optional: &[],
+};
+
+const AUDIT: CommandForms = CommandForms {
+    needed: &[Form::Name, Form::Name, Form::Name, Form::Name, Form::Name],
+    optional: &[],
+};
+
 impl Command {
     ghost use Rattle.psi_top.specs.Form.{forms_seen};
 
@@ -62,53 +122,13 @@ impl Command {
         ensures few { length result.needed.now + length result.optional.now ≤ 8 }
     {
         match self {
-            Command::Deal => CommandForms {
-                needed: &[
-                    Form::Seed,
-                    Form::Session,
-                    Form::Sizes,
-                    Form::Name,
-                    Form::Output { from: 4, to: 5 },
-                ],
-                optional: &[],
-            },
-            Command::Local => CommandForms {
-                needed: &[
-                    Form::Name,
-                    Form::Name,
-                    Form::Seed,
-                    Form::Session,
-                    Form::Sizes,
-                ],
-                optional: &[Form::Output { from: 1, to: 3 }],
-            },
-            Command::Send => CommandForms {
-                needed: &[Form::Name, Form::Name, Form::Name],
-                optional: &[],
-            },
-            Command::Receive => CommandForms {
-                needed: &[
-                    Form::Name,
-                    Form::Name,
-                    Form::Name,
-                    Form::Output { from: 2, to: 4 },
-                ],
-                optional: &[],
-            },
-            Command::Make => CommandForms {
-                needed: &[
-                    Form::Count,
-                    Form::Shared,
-                    Form::Session,
-                    Form::Name,
-                    Form::Output { from: 4, to: 5 },
-                ],
-                optional: &[],
-            },
-            Command::Trial => CommandForms {
-                needed: &[Form::Count, Form::Shared, Form::Seed],
-                optional: &[],
-            },
+            Command::Deal => DEAL,
+            Command::Local => LOCAL,
+            Command::Send => SEND,
+            Command::Receive => RECEIVE,
+            Command::Make => MAKE,
+            Command::Trial => TRIAL,
+            Command::Audit => AUDIT,
         }
     }
 }
@@ -174,6 +194,8 @@ pub fn named_command(words: &Words) -> Option<Command>
         Some(Command::Make)
     } else if name == "trial" {
         Some(Command::Trial)
+    } else if name == "audit" {
+        Some(Command::Audit)
     } else {
         None
     }

@@ -1,8 +1,10 @@
 //! The commands: their words, what they answer, and `run`, which does all that the program does.
 #![tactic(auto)]
 
+mod audit;
 mod deal;
 mod entry;
+mod findings;
 mod form;
 mod local;
 mod make;
@@ -18,6 +20,7 @@ mod transcript;
 mod trial;
 mod values;
 
+pub use audit::audit_command;
 pub use deal::deal_command;
 pub use entry::run;
 pub use form::{Command, CommandForms, Form, bad_word, named_command};

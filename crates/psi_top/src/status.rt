@@ -6,10 +6,11 @@ ghost use Rattle.psi_top.specs.Tree.{end_of, ended};
 ghost use Rattle.psi_top.specs.declared.status.Status.TheVariants as status;
 
 use psi_base::{NoMemory, Places};
-use psi_cuckoo::Placement;
-use psi_deal::BadDeal;
+use psi_cuckoo::{BadSlots, Placement};
+use psi_deal::{BadDeal, DealField};
 use psi_frames::BadFrame;
 use psi_items::BadItems;
+use psi_log::BadRecord;
 use std::alloc::AllocError;
 
 /// How a run ended. The words of a command are counted from its name, which is word 0.
@@ -44,6 +45,17 @@ pub enum Status {
     PeerEnded {
         offset: u64,
     },
+    /// A recorded session is not that of the inputs: at byte `offset` of the record, counted from 0, stands `found`,
+    /// where the session has `wanted`. It is the first place at which they differ.
+    Differs {
+        offset: u64,
+        found: u8,
+        wanted: u8,
+    },
+    /// The recorded slots are no placement of the receiver's items. The fault is never want of memory.
+    BadSlots(BadSlots),
+    /// The record file is no record. The fault is never want of memory.
+    BadRecord(BadRecord),
     /// The file that this word names could not be read or written.
     FileFault {
         word: u8,
@@ -52,12 +64,14 @@ pub enum Status {
     LinkFault,
     /// The text could not be printed whole.
     PrintFault,
-    /// The file that this word names has more bytes than are read of it, which is 33,554,432; `taken` bytes of it
-    /// were taken, and it has at least as many.
+    /// The file that this word names has more bytes than are read of it, which is 536,870,912 of a record and
+    /// 33,554,432 of any other; `taken` bytes of it were taken, and it has at least as many.
     TooLong {
         word: u8,
         taken: u64,
     },
+    /// The two deals are no pair, and this is the first field in which they differ.
+    DealsDiffer(DealField),
     /// Memory was wanting.
     NoMemory,
 }
@@ -126,10 +140,13 @@ pub fn status_number(status: &Status) -> u8
         Status::NoPlacement { .. } => 5,
         Status::BadFrame(_) => 6,
         Status::PeerEnded { .. } => 7,
+        Status::Differs { .. } | Status::BadSlots(_) => 8,
+        Status::BadRecord(_) => 9,
         Status::FileFault { .. } => 10,
         Status::LinkFault => 11,
         Status::PrintFault => 12,
         Status::TooLong { .. } => 13,
+        Status::DealsDiffer(_) => 14,
         Status::NoMemory => 70,
     }
 }

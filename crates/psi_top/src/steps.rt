@@ -2,9 +2,9 @@
 ghost use Rattle.std.specs.Prelude.{◌≡◌, ◌≤◌, Bool, List, ℕ, IfOk, IsTrue, OnOk, length};
 ghost use Rattle.psi_spec.specs.Deals.{IsReceiverDeal, IsSenderDeal};
 ghost use Rattle.psi_spec.specs.Frames.{AreBytes};
-ghost use Rattle.psi_spec.specs.Limits.{file_limit};
+ghost use Rattle.psi_spec.specs.Limits.{file_limit, record_limit};
 ghost use Rattle.psi_base.specs.Outside.{as_list};
-ghost use Rattle.psi_top.specs.Files.{items_in, reads_items, reads_receiver, reads_sender, receiver_in, sender_in};
+ghost use Rattle.psi_top.specs.Files.{items_in, record_in, reads_items, reads_receiver, reads_sender, receiver_in, sender_in};
 ghost use Rattle.psi_top.specs.Tree.{puts, says};
 ghost use Rattle.psi_top.specs.Walk.{Makes, Settles, Steps, StepsOpen, StepsRead, status_of, talk_status};
 
@@ -14,10 +14,11 @@ use psi_base::{FILE_LIMIT, Fault, ReadFault, Side, Words, World, print_all};
 use psi_deal::{BadDeal, ReceiverDeal, SenderDeal, read_receiver, read_sender};
 use psi_frames::EndFault;
 use psi_items::{BadItems, Items};
+use psi_log::{BadRecord, LoggedSession, read_record};
 use std::alloc::Global;
 
-// Reads the file that the word at this place names.
-fn read_bytes<W: World>(
+/// Reads the file that the word at this place names, of at most so many bytes.
+pub fn read_bytes<W: World>(
     alloc: Global,
     words: &Words,
     word: u8,
@@ -124,6 +125,20 @@ pub fn read_receiver_deal<W: World>(
     match read_bytes(alloc, words, word, FILE_LIMIT, world) {
         Ok(bytes) => judge_receiver(alloc, word, &bytes),
         Err(status) => Err(status),
+    }
+}
+
+/// The session that the bytes of a record file hold.
+#[tactic(auto, unfolding(crate::specs::Files::record_in))]
+pub fn judge_record<'a>(alloc: Global, bytes: &'a [u8]) -> Result<LoggedSession<'a>, Status>
+    requires { length bytes.now ≤ record_limit }
+    ensures settles { Settles (record_in bytes.now) result }
+    ensures are_bytes { AreBytes bytes.now }
+{
+    match read_record(alloc, bytes) {
+        Ok(session) => Ok(session),
+        Err(BadRecord::NoMemory) => Err(Status::NoMemory),
+        Err(fault) => Err(Status::BadRecord(fault)),
     }
 }
 

@@ -1,26 +1,28 @@
 // The lines that name faults.
 ghost use Rattle.std.specs.Prelude.{◌≡◌, ◌+◌, ◌≤◌, ◌++◌, length, take, decimal, codes};
-ghost use Rattle.psi_top.specs.Texts.{crowded_text, deal_text, fault_text, frame_text, items_text, line_front, too_long_text, word_front};
+ghost use Rattle.psi_top.specs.Texts.{crowded_text, deal_text, difference_text, fault_text, field_text, frame_text, items_text, line_front, record_text, too_long_text, word_front};
 
 use crate::status::Status;
 use arrayvec::ArrayString;
 use itoa::Buffer;
-use psi_deal::BadDeal;
+use psi_cuckoo::BadSlots;
+use psi_deal::{BadDeal, DealField};
 use psi_frames::BadFrame;
 use psi_items::BadItems;
+use psi_log::BadRecord;
 
 /// The longest line that names a fault, in bytes.
 pub const LINE_ROOM: usize = 120;
 
-/// A line in the making.
+/// A line in the making. It takes no memory.
 #[derive(Drop)]
-struct Line {
+pub struct Line {
     text: ArrayString<LINE_ROOM>,
 }
 
 impl Line {
-    // A line that begins so.
-    fn begin(front: &str) -> Line
+    /// A line that begins so.
+    pub fn begin(front: &str) -> Line
         requires { length front.now ≤ 120 }
         ensures { result.text.bytes ≡ front.now }
     {
@@ -29,8 +31,8 @@ impl Line {
         Line { text }
     }
 
-    // The line with a text at its end.
-    fn with(mut self, text: &str) -> Line
+    /// The line with a text at its end.
+    pub fn with(mut self, text: &str) -> Line
         requires { length self.text.bytes + length text.now ≤ 120 }
         ensures text { result.text.bytes ≡ self.text.bytes ++ text.now }
         ensures short { length result.text.bytes ≤ length self.text.bytes + length text.now }
@@ -39,8 +41,8 @@ impl Line {
         self
     }
 
-    // The line with a number at its end.
-    fn with_number(mut self, number: u64) -> Line
+    /// The line with a number at its end, in decimal digits.
+    pub fn with_number(mut self, number: u64) -> Line
         requires { length self.text.bytes + 20 ≤ 120 }
         ensures text { result.text.bytes ≡ self.text.bytes ++ decimal number }
         ensures short { length result.text.bytes ≤ length self.text.bytes + 20 }
@@ -48,6 +50,13 @@ impl Line {
         let mut buffer = Buffer::new();
         self.text.push_str(buffer.format(number));
         self
+    }
+
+    /// The bytes of the line.
+    pub fn bytes(&self) -> &[u8]
+        ensures { result.now ≡ self.now.text.bytes }
+    {
+        self.text.as_str().as_bytes()
     }
 
     // A line about the file of a word.
@@ -150,6 +159,60 @@ impl Line {
         }
     }
 
+    // A line about two bytes that differ in a record.
+    fn about_difference(offset: u64, found: u8, wanted: u8) -> Line
+        ensures { result.text.bytes ≡ difference_text offset found wanted }
+    {
+        Line::begin("psi: record differs at ")
+            .with_number(offset)
+            .with(": ")
+            .with_number(u64::from(found))
+            .with(" not ")
+            .with_number(u64::from(wanted))
+            .with("\n")
+    }
+
+    // A line about a fault of a record file.
+    fn about_record(fault: BadRecord) -> Line
+        ensures { result.text.bytes ≡ record_text fault }
+    {
+        match fault {
+            BadRecord::Magic => Line::begin("psi: not a record file\n"),
+            BadRecord::Version { found } => {
+                Line::about_number("psi: record version ", u64::from(found), "\n")
+            }
+            BadRecord::Short { offset } => {
+                Line::about_number("psi: record short at ", offset, "\n")
+            }
+            BadRecord::Kind { offset, found } => Line::begin("psi: record kind ")
+                .with_number(u64::from(found))
+                .with(" at ")
+                .with_number(offset)
+                .with("\n"),
+            BadRecord::Seal => Line::begin("psi: record seal\n"),
+            BadRecord::Trailing { offset } => {
+                Line::about_number("psi: record trailing at ", offset, "\n")
+            }
+            BadRecord::NoMemory => Line::begin("psi: no memory\n"),
+        }
+    }
+
+    // A line about two deals that are no pair.
+    fn about_field(field: DealField) -> Line
+        ensures { result.text.bytes ≡ field_text field }
+    {
+        match field {
+            DealField::Id => Line::begin("psi: deals differ in id\n"),
+            DealField::Session => Line::begin("psi: deals differ in session\n"),
+            DealField::Key => Line::begin("psi: deals differ in key\n"),
+            DealField::TagBytes => Line::begin("psi: deals differ in tag bytes\n"),
+            DealField::StashRows => Line::begin("psi: deals differ in stash\n"),
+            DealField::Seed { column } => {
+                Line::about_number("psi: deals differ in column ", u64::from(column), "\n")
+            }
+        }
+    }
+
     // A line of a number between two texts.
     fn about_number(front: &str, number: u64, end: &str) -> Line
         requires { length front.now + 20 + length end.now ≤ 120 }
@@ -178,10 +241,19 @@ impl Line {
             Status::PeerEnded { offset } => {
                 Line::about_number("psi: peer ended at ", *offset, "\n")
             }
+            Status::Differs {
+                offset,
+                found,
+                wanted,
+            } => Line::about_difference(*offset, *found, *wanted),
+            Status::BadSlots(BadSlots::NoMemory) => Line::begin("psi: no memory\n"),
+            Status::BadSlots(_) => Line::begin("psi: record slots\n"),
+            Status::BadRecord(fault) => Line::about_record(*fault),
             Status::FileFault { word } => Line::about_word(*word).with("file fault\n"),
             Status::LinkFault => Line::begin("psi: link fault\n"),
             Status::PrintFault => Line::begin("psi: print fault\n"),
             Status::TooLong { word, taken } => Line::about_length(*word, *taken),
+            Status::DealsDiffer(field) => Line::about_field(*field),
             Status::NoMemory => Line::begin("psi: no memory\n"),
         }
     }
@@ -195,7 +267,7 @@ pub fn fault_line(status: &Status, out: &mut [u8; 120]) -> usize
     ensures room { result ≤ 120 }
 {
     let line = Line::about(status);
-    let bytes = line.text.as_str().as_bytes();
+    let bytes = line.bytes();
     out[..bytes.len()].copy_from_slice(bytes);
     bytes.len()
 }

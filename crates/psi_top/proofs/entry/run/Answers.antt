@@ -1,5 +1,6 @@
 use Rattle.psi_top.specs.Tree.{ended}
 use Rattle.psi_top.proofs.Laws.{answers_bad_words, answers_complete, answers_counted, answers_done, answers_exact, answers_of_command, answers_stand, answers_through}
+use Rattle.psi_top.proofs.AuditLaws.{answers_audit, answers_audited}
 use Rattle.psi_top.proofs.DealLaws.{answers_dealt}
 use Rattle.psi_top.proofs.HonestLaws.{answers_found}
 use Rattle.psi_top.proofs.LocalLaws.{answers_completed, answers_local, answers_shown}
@@ -97,3 +98,11 @@ returns-clause-tried g c =
 pub returns-clause-through_trial : goal.returns-clause-through_trial
 returns-clause-through_trial g c =
     answers_through_trial g.W.World.known c.args.words.now (g.W.World.outside c.args.world.now) (ended c.answer.result (g.W.World.outside c.answer.new.world)) c.answer.ensures
+
+pub returns-clause-audited : goal.returns-clause-audited
+returns-clause-audited g c =
+    answers_audit g.W.World.known c.args.words.now (g.W.World.outside c.args.world.now) (ended c.answer.result (g.W.World.outside c.answer.new.world)) c.answer.ensures
+
+pub returns-clause-consistent : goal.returns-clause-consistent
+returns-clause-consistent g c =
+    answers_audited g.W.World.known c.args.words.now (g.W.World.outside c.args.world.now) (ended c.answer.result (g.W.World.outside c.answer.new.world)) c.answer.ensures

@@ -1,0 +1,168 @@
+// Audits of recorded sessions: of the records that `local` writes, and of records and deal files that were changed.
+use crate::runs::{DONE, ZERO_SEED as Z, expect_run, numbered_lines, words_of, world_of};
+use psi_base::{MemWorld, NoMemory};
+use psi_top::{Status, run};
+use sha2::{Digest, Sha256};
+use std::alloc::{AllocError, Global};
+use std::process::Abort;
+use std::test::Fail;
+
+/// The words of an audit.
+const AUDIT: &[&str] = &["audit", "x", "y", "r", "s", "record"];
+
+/// The receiver's list.
+const X: &[u8] = b"a\nb\nc\n";
+
+/// The sender's list.
+const Y: &[u8] = b"b\nc\nd\n";
+
+/// What `local` prints of both lists.
+const COMMON: &[u8] = b"b\nc\n";
+
+// A world with these lists, a pair of deals with tags of so many bytes, and the record of the session, which was run.
+fn recorded_world(
+    rt: &(impl Abort + AllocGlobal),
+    tag_length: &str,
+    x: &[u8],
+    y: &[u8],
+) -> Result<MemWorld, NoMemory> {
+    let mut world = world_of(rt.alloc(), Some(x), Some(y))?;
+    let deal = words_of(rt.alloc(), &["deal", Z, "0", tag_length, "r", "s"])?;
+    let local = words_of(
+        rt.alloc(),
+        &["local", "x", "y", Z, "0", tag_length, "record"],
+    )?;
+    assert_eq!(rt; run(rt.alloc(), &deal, &mut world).status, Status::Done);
+    assert_eq!(rt; run(rt.alloc(), &local, &mut world).status, Status::Done);
+    Ok(world)
+}
+
+// The record with another byte at a place, sealed anew.
+fn changed_record(
+    alloc: Global,
+    world: &MemWorld,
+    place: usize,
+    value: u8,
+) -> Result<Vec<u8>, AllocError> {
+    let mut bytes = world.file("record").unwrap_or(&[]).to_vec(alloc)?;
+    if let Some(byte) = bytes.get_mut(place) {
+        *byte = value;
+    }
+    bytes.truncate(bytes.len().saturating_sub(32));
+    let seal = Sha256::digest(&bytes);
+    bytes.extend_from_slice(&seal)?;
+    Ok(bytes)
+}
+
+#[test]
+fn the_record_of_a_session_is_consistent(rt: HostRuntime) -> Result<(), Fail> {
+    let mut world = recorded_world(&rt, "16", X, Y)?;
+    let text = b"b\nc\nconsistent\nshown 2\ncollisions 0\n";
+    expect_run(&rt, AUDIT, &mut world, DONE, text, "three and three")?;
+    Ok(())
+}
+
+#[test]
+fn items_that_meet_by_short_tags_are_collisions(rt: HostRuntime) -> Result<(), Fail> {
+    let x = numbered_lines(rt.alloc(), 'x', 300)?;
+    let y = numbered_lines(rt.alloc(), 'y', 300)?;
+    let mut world = recorded_world(&rt, "1", x.as_bytes(), y.as_bytes())?;
+    let shown = world.printed().len();
+    let words = words_of(rt.alloc(), AUDIT)?;
+    assert_eq!(rt; run(rt.alloc(), &words, &mut world).status, Status::Done);
+    let text = world.printed().get(shown..).unwrap_or(&[]);
+    let front = b"consistent\nshown 206\ncollisions 206\ncollision ";
+    assert_eq!(rt; text.get(..front.len()), Some(front.as_slice()));
+    Ok(())
+}
+
+#[test]
+fn a_changed_byte_is_found(rt: HostRuntime) -> Result<(), Fail> {
+    let mut world = recorded_world(&rt, "16", X, Y)?;
+
+    // The first byte of the first tag.
+    let wanted = world
+        .file("record")
+        .unwrap_or(&[])
+        .get(4198)
+        .copied()
+        .unwrap_or(0);
+    let found = wanted ^ 1;
+    let bytes = changed_record(rt.alloc(), &world, 4198, found)?;
+    world.put_file("record", &bytes)?;
+    let line = format!(in rt.alloc(); "psi: record differs at 4198: {found} not {wanted}\n")?;
+    expect_run(&rt, AUDIT, &mut world, &line, COMMON, "first tag")?;
+    Ok(())
+}
+
+#[test]
+fn recorded_slots_are_judged(rt: HostRuntime) -> Result<(), Fail> {
+    let mut world = recorded_world(&rt, "16", X, Y)?;
+
+    // The index of the first slot.
+    let bytes = changed_record(rt.alloc(), &world, 13, 4)?;
+    world.put_file("record", &bytes)?;
+    expect_run(
+        &rt,
+        AUDIT,
+        &mut world,
+        "psi: record slots\n",
+        COMMON,
+        "index 4",
+    )?;
+    Ok(())
+}
+
+#[test]
+fn records_of_other_lengths_are_refused(rt: HostRuntime) -> Result<(), Fail> {
+    let mut world = recorded_world(&rt, "16", X, Y)?;
+    let mut bytes = world.file("record").unwrap_or(&[]).to_vec(rt.alloc())?;
+    bytes.push(0)?;
+    world.put_file("record", &bytes)?;
+    let trailing = "psi: record trailing at 4631\n";
+    expect_run(&rt, AUDIT, &mut world, trailing, COMMON, "one byte more")?;
+    bytes.truncate(4630);
+    world.put_file("record", &bytes)?;
+    let short = "psi: record short at 4599\n";
+    expect_run(&rt, AUDIT, &mut world, short, COMMON, "one byte less")?;
+    Ok(())
+}
+
+#[test]
+fn deal_files_are_judged_before_the_record(rt: HostRuntime) -> Result<(), Fail> {
+    let mut world = recorded_world(&rt, "16", X, Y)?;
+    let mut deal = world.file("r").unwrap_or(&[]).to_vec(rt.alloc())?;
+    world.put_file("record", b"")?;
+    world.put_file("empty", b"")?;
+
+    // One bit of a seed.
+    if let Some(byte) = deal.get_mut(48) {
+        *byte ^= 1;
+    }
+    world.put_file("changed", &deal)?;
+    deal.truncate(32_847);
+    world.put_file("cut", &deal)?;
+    let rows = [
+        ("cut", "psi: word 3: deal length 32847\n"),
+        ("changed", "psi: word 3: deal seal\n"),
+        ("s", "psi: word 3: deal role 1\n"),
+        ("empty", "psi: word 3: not a deal file\n"),
+        ("r", "psi: not a record file\n"),
+    ];
+    for (name, line) in rows {
+        let texts = ["audit", "x", "y", name, "s", "record"];
+        expect_run(&rt, &texts, &mut world, line, COMMON, name)?;
+    }
+    Ok(())
+}
+
+#[test]
+fn deals_of_two_sessions_are_no_pair(rt: HostRuntime) -> Result<(), Fail> {
+    let mut world = recorded_world(&rt, "16", X, Y)?;
+    let other = ["deal", Z, "1", "16", "receiver", "sender"];
+    expect_run(&rt, &other, &mut world, DONE, COMMON, "another session")?;
+    let texts = ["audit", "x", "y", "r", "sender", "record"];
+    let line = "psi: deals differ in session\n";
+    expect_run(&rt, &texts, &mut world, line, COMMON, "two sessions")?;
+    Ok(())
+}
