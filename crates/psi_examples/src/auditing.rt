@@ -37,16 +37,16 @@ fn recorded_world(
     Ok(world)
 }
 
-// The record with another byte at a place, sealed anew.
+// A record with other bits at a place, sealed anew.
 fn changed_record(
     alloc: Global,
-    world: &MemWorld,
+    record: &[u8],
     place: usize,
-    value: u8,
+    bits: u8,
 ) -> Result<Vec<u8>, AllocError> {
-    let mut bytes = world.file("record").unwrap_or(&[]).to_vec(alloc)?;
+    let mut bytes = record.to_vec(alloc)?;
     if let Some(byte) = bytes.get_mut(place) {
-        *byte = value;
+        *byte ^= bits;
     }
     bytes.truncate(bytes.len().saturating_sub(32));
     let seal = Sha256::digest(&bytes);
@@ -76,40 +76,42 @@ fn items_that_meet_by_short_tags_are_collisions(rt: HostRuntime) -> Result<(), F
     Ok(())
 }
 
-#[test]
-fn a_changed_byte_is_found(rt: HostRuntime) -> Result<(), Fail> {
-    let mut world = recorded_world(&rt, "16", X, Y)?;
+/// A place in each part of the frames: the receiver's hello, the sender's, a column, and the tags of each list.
+const PARTS: [usize; 11] = [30, 64, 899, 4198, 4203, 4261, 4319, 4377, 4435, 4493, 4551];
 
-    // The first byte of the first tag.
-    let wanted = world
-        .file("record")
-        .unwrap_or(&[])
-        .get(4198)
-        .copied()
-        .unwrap_or(0);
-    let found = wanted ^ 1;
-    let bytes = changed_record(rt.alloc(), &world, 4198, found)?;
-    world.put_file("record", &bytes)?;
-    let line = format!(in rt.alloc(); "psi: record differs at 4198: {found} not {wanted}\n")?;
-    expect_run(&rt, AUDIT, &mut world, &line, COMMON, "first tag")?;
+#[test]
+fn a_changed_byte_of_each_part_is_found(rt: HostRuntime) -> Result<(), Fail> {
+    let mut world = recorded_world(&rt, "16", X, Y)?;
+    let record = world.file("record").unwrap_or(&[]).to_vec(rt.alloc())?;
+    for place in PARTS {
+        let wanted = record.get(place).copied().unwrap_or(0);
+        let found = wanted ^ 1;
+        let bytes = changed_record(rt.alloc(), &record, place, 1)?;
+        world.put_file("record", &bytes)?;
+        let line = format!(in rt.alloc();
+            "psi: record differs at {place}: {found} not {wanted}\n"
+        )?;
+        expect_run(&rt, AUDIT, &mut world, &line, COMMON, "a part")?;
+    }
     Ok(())
 }
 
 #[test]
-fn recorded_slots_are_judged(rt: HostRuntime) -> Result<(), Fail> {
+fn changed_slots_and_a_changed_end_are_refused(rt: HostRuntime) -> Result<(), Fail> {
     let mut world = recorded_world(&rt, "16", X, Y)?;
+    let record = world.file("record").unwrap_or(&[]).to_vec(rt.alloc())?;
 
-    // The index of the first slot.
-    let bytes = changed_record(rt.alloc(), &world, 13, 4)?;
-    world.put_file("record", &bytes)?;
-    expect_run(
-        &rt,
-        AUDIT,
-        &mut world,
-        "psi: record slots\n",
-        COMMON,
-        "index 4",
-    )?;
+    // The index of the first slot is above 3, its row is above all rows, and the end has a byte of its own.
+    let rows = [
+        (13, 4, "psi: record slots\n"),
+        (12, 0x80, "psi: record slots\n"),
+        (4598, 1, "psi: record short at 4600\n"),
+    ];
+    for (place, bits, line) in rows {
+        let bytes = changed_record(rt.alloc(), &record, place, bits)?;
+        world.put_file("record", &bytes)?;
+        expect_run(&rt, AUDIT, &mut world, line, COMMON, line)?;
+    }
     Ok(())
 }
 
