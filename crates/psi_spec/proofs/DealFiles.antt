@@ -17,22 +17,22 @@ use Rattle.psi_spec.proofs.Dealing.{length-seed_pairs, seed_pairs_have_seeds}
 
 -- ---- parts of lists
 
-front_of : (n : ℕ) (part rest : List ℕ) → length part ≡ n → take n (part ++ rest) ≡ part
+pub front_of : (n : ℕ) (part rest : List ℕ) → length part ≡ n → take n (part ++ rest) ≡ part
 front_of n part rest l = take-append-le n part rest (omega arith) ∙ take_all n part (omega arith)
 
-after_front : (n m : ℕ) (part rest : List ℕ) → length part ≡ n → drop (n + m) (part ++ rest) ≡ drop m rest
+pub after_front : (n m : ℕ) (part rest : List ℕ) → length part ≡ n → drop (n + m) (part ++ rest) ≡ drop m rest
 after_front n m part rest l =
     sym (drop-drop m n (part ++ rest))
     ∙ ap (drop m) (drop-append-le n part rest (omega arith) ∙ ap (λ (none : List ℕ). none ++ rest) (drop_all n part (omega arith)))
 
 -- a part that is cut off the front of another
-cut : (at n m : ℕ) (bytes : List ℕ) → take (n + m) (drop at bytes) ≡ take n (drop at bytes) ++ take m (drop (at + n) bytes)
+pub cut : (at n m : ℕ) (bytes : List ℕ) → take (n + m) (drop at bytes) ≡ take n (drop at bytes) ++ take m (drop (at + n) bytes)
 cut at n m bytes = take-add n m (drop at bytes) ∙ ap (λ (rest : List ℕ). take n (drop at bytes) ++ take m rest) (drop-drop n at bytes)
 
-cut_one : (at m : ℕ) (bytes : List ℕ) → at < length bytes → take (suc m) (drop at bytes) ≡ get_or bytes at 0 ∷ take m (drop (suc at) bytes)
+pub cut_one : (at m : ℕ) (bytes : List ℕ) → at < length bytes → take (suc m) (drop at bytes) ≡ get_or bytes at 0 ∷ take m (drop (suc at) bytes)
 cut_one at m bytes l = ap (take (suc m)) (drop-cons bytes at 0 l)
 
-small_part : (at n : ℕ) (bytes : List ℕ) → AreBytes bytes → AreBytes (take n (drop at bytes))
+pub small_part : (at n : ℕ) (bytes : List ℕ) → AreBytes bytes → AreBytes (take n (drop at bytes))
 small_part at n bytes small i =
     ⊎_elim
     (λ (l : i < n). subst (λ (b : ℕ). b < 2 ^ 8) (sym (get_or-take n (drop at bytes) i 0 l ∙ get_or-drop at bytes i 0)) (small (at + i)))
@@ -316,7 +316,7 @@ session-lt at bytes small l =
     let fits = small_part at 8 bytes small in
     omega (arith, fits 0, fits 1, fits 2, fits 3, fits 4, fits 5, fits 6, fits 7)
 
-length-part : (at n : ℕ) (bytes : List ℕ) → at + n ≤ length bytes → length (take n (drop at bytes)) ≡ n
+pub length-part : (at n : ℕ) (bytes : List ℕ) → at + n ≤ length bytes → length (take n (drop at bytes)) ≡ n
 length-part at n bytes l = length-take-le n (drop at bytes) (omega (arith, length-drop at bytes))
 
 pub receiver_of_sizes : (bytes : List ℕ) → AreBytes bytes → length bytes ≡ 32848 → fits_tag_length (get_or bytes 46 0) ≡ true → fits_stash (get_or bytes 47 0) ≡ true → IsReceiverDeal (receiver_of bytes)

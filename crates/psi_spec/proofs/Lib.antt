@@ -13,12 +13,14 @@ pub mod ColumnSets
 pub mod Hiding
 pub mod Dealing
 pub mod DealFiles
+pub mod OldDealFiles
 pub mod Comparing
 pub mod Printing
 pub mod Crowding
 pub mod Frames
 pub mod Rising
 pub mod Reordering
+pub mod Depending
 pub mod StreamSizes
 pub mod Telling
 pub mod DealtColumns

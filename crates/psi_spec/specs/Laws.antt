@@ -7,6 +7,7 @@ use Rattle.psi_spec.specs.Matrices.{AreColumns, IsClean, IsColumn, has_padding}
 use Rattle.psi_spec.specs.ColumnSets.{ColumnSets, masked_columns, chosen_columns, opened_columns}
 use Rattle.psi_spec.specs.Deals.{ReceiverDeal, SenderDeal, IsReceiverDeal, IsSenderDeal, dealt_receiver, dealt_sender, ArePair}
 use Rattle.psi_spec.specs.DealFiles.{receiver_bytes, sender_bytes, receiver_of, sender_of}
+use Rattle.psi_spec.specs.OldDealFiles.{IsOldReceiverFile, IsOldSenderFile, old_receiver_of, old_sender_of}
 use Rattle.psi_spec.specs.Placement.{Slot, IsPlacement, IsPlacementOf, stash_slots}
 use Rattle.psi_spec.specs.CrowdedLists.{IsCrowded}
 use Rattle.psi_spec.specs.Meeting.{Setup, IsSetup, ShowsCommon, setup_of}
@@ -74,6 +75,15 @@ ReceiverFilesReadBack = (deal : ReceiverDeal) → IsReceiverDeal deal → receiv
 
 abbrev pub SenderFilesReadBack : Type 0
 SenderFilesReadBack = (deal : SenderDeal) → IsSenderDeal deal → sender_of (sender_bytes deal) ≡ deal
+
+-- and so does its file of version 1
+abbrev pub OldReceiverFilesReadBack : Type 0
+OldReceiverFilesReadBack =
+    (deal : ReceiverDeal) (bytes : List ℕ) → IsOldReceiverFile deal bytes → old_receiver_of bytes ≡ deal
+
+abbrev pub OldSenderFilesReadBack : Type 0
+OldSenderFilesReadBack =
+    (deal : SenderDeal) (bytes : List ℕ) → IsOldSenderFile deal bytes → old_sender_of bytes ≡ deal
 
 -- ---- what is shown
 

@@ -9,6 +9,7 @@ pub mod ColumnSets
 pub mod Changes
 pub mod Deals
 pub mod DealFiles
+pub mod OldDealFiles
 pub mod Placement
 pub mod CrowdedLists
 pub mod Meeting

@@ -4,7 +4,7 @@ use Rattle.psi_spec.specs.Limits.{limit_items, bins_for, rows_for}
 use Rattle.psi_spec.specs.Columns.{column_bytes, row_of}
 use Rattle.psi_spec.specs.Matrices.{AreColumns}
 use Rattle.psi_spec.specs.ColumnSets.{ColumnSets, AreColumnSets, masked_columns, chosen_columns, opened_columns}
-use Rattle.psi_spec.specs.Deals.{ReceiverDeal, SenderDeal, ArePair, sender_columns}
+use Rattle.psi_spec.specs.Deals.{ReceiverDeal, SenderDeal, ArePair, zero_columns, one_columns, sender_columns}
 use Rattle.psi_spec.specs.Placement.{Slot, IsPlacementOf}
 use Rattle.psi_spec.specs.Meeting.{Placed, placed_of, Setup, IsSetup, shown, ShowsCommon, setup_of}
 use Rattle.psi_spec.specs.Frames.{layout, receiver_hello, sender_hello, done_frame}
@@ -26,6 +26,39 @@ abbrev pub SessionsHideOrder : Type 0
 SessionsHideOrder =
     (receiver : ReceiverDeal) (sender : SenderDeal) (placed : List Placed) (ys zs : List (List ℕ)) → IsPermutation ys zs
     → session_bytes receiver sender placed ys ≡ session_bytes receiver sender placed zs
+
+-- ---- what a session depends on
+
+-- of two receivers' deals all that is sent of so many rows agrees: id, session, key and stash, and both columns of each
+-- base transfer
+pub record SendAlike (rows : ℕ) (a b : ReceiverDeal) : Type 0 where
+  pub id : a.id ≡ b.id
+  pub session : a.session ≡ b.session
+  pub key : a.key ≡ b.key
+  pub stash : a.stash ≡ b.stash
+  pub zeros : zero_columns a rows ≡ zero_columns b rows
+  pub ones : one_columns a rows ≡ one_columns b rows
+
+-- of two senders' deals all that is answered over so many rows agrees: id, session, key, tag length, stash and choice
+-- word, and the column of each base transfer
+pub record AnswerAlike (rows : ℕ) (a b : SenderDeal) : Type 0 where
+  pub id : a.id ≡ b.id
+  pub session : a.session ≡ b.session
+  pub key : a.key ≡ b.key
+  pub tag_length : a.tag_length ≡ b.tag_length
+  pub stash : a.stash ≡ b.stash
+  pub choice : a.choice ≡ b.choice
+  pub columns : sender_columns a rows ≡ sender_columns b rows
+
+-- of its deals a session depends on these alone: where they agree its bytes are the same, whatever else the deals and
+-- their files are
+abbrev pub SessionsDependOnColumns : Type 0
+SessionsDependOnColumns =
+    (receiver other_receiver : ReceiverDeal) (sender other_sender : SenderDeal) (placed : List Placed)
+    (ys : List (List ℕ))
+    → SendAlike (rows_for receiver.stash (length placed)) receiver other_receiver
+    → AnswerAlike (rows_for sender.stash (length placed)) sender other_sender
+    → session_bytes receiver sender placed ys ≡ session_bytes other_receiver other_sender placed ys
 
 -- ---- what the sender answers
 

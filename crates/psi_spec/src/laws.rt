@@ -10,6 +10,8 @@ ghost use Rattle.psi_spec.specs.Laws.{
   DealtArePairs,
   ReceiverFilesReadBack,
   SenderFilesReadBack,
+  OldReceiverFilesReadBack,
+  OldSenderFilesReadBack,
   SetupsShowCommon,
   DealsShowCommon,
   StashShowsCommon,
@@ -19,6 +21,7 @@ ghost use Rattle.psi_spec.specs.HidingLaws.{ChangesBits, SetsAreHidden, StreamsA
 ghost use Rattle.psi_spec.specs.SessionLaws.{
   OrderIsHidden,
   SessionsHideOrder,
+  SessionsDependOnColumns,
   OpenedColumnsAnswer,
   ReceiverStreamsAreWellFormed,
   SenderStreamsAreWellFormed,
@@ -57,10 +60,12 @@ pub fn dealt_are_pairs()
     ensures { DealtArePairs }
 {}
 
-/// The file of a deal spells that deal.
+/// The file of a deal spells that deal, and so does its file of version 1 where the deal has the usual stash.
 pub fn deal_files_read_back()
     ensures receiver { ReceiverFilesReadBack }
     ensures sender { SenderFilesReadBack }
+    ensures old_receiver { OldReceiverFilesReadBack }
+    ensures old_sender { OldSenderFilesReadBack }
 {}
 
 /// Each item that both ends have is shown, and each item that is shown shares its tag with the item that it names.
@@ -85,6 +90,12 @@ pub fn crowded_excludes_placement()
 pub fn order_is_hidden()
     ensures stream { OrderIsHidden }
     ensures session { SessionsHideOrder }
+{}
+
+/// Of its deals a session depends on id, session, key, tag length, stash, choice word and columns alone. So a record
+/// that was made with deals of version 1 is judged the same with the renewed deals.
+pub fn sessions_depend_on_columns()
+    ensures { SessionsDependOnColumns }
 {}
 
 /// A sender that opens its columns in place sends the same: its hello, and the lists over the rows of what it opened.
@@ -120,10 +131,10 @@ pub fn changes_bits()
     ensures { ChangesBits }
 {}
 
-/// A receiver's columns hide which of the placed sets of one count it has, over arbitrary column sets: the change of the
-/// columns that the sender did not choose is its own inverse, keeps those that it chose, and gives another placed set
-/// the same stream, so that every sender answers it alike; and whatever columns a sender has and gets, they come from
-/// each placed set over just one pair of column sets. A sender's stream is that over its own columns.
+/// A receiver's columns hide which of the placed sets of one count it has, over arbitrary column sets: the change of
+/// the columns that the sender did not choose is its own inverse, keeps those that it chose, and gives another placed
+/// set the same stream, so that every sender answers it alike; and whatever columns a sender has and gets, they come
+/// from each placed set over just one pair of column sets. A sender's stream is that over its own columns.
 pub fn sets_are_hidden()
     ensures hidden { SetsAreHidden }
     ensures over { StreamsAreOver }
