@@ -116,7 +116,8 @@ fn finished(h: &State, v: &State, w: &Schedule, turns: usize) -> State
     requires turns { turns ≤ 16 }
     ensures lanes { AreLanes 8 result }
     ensures value { (j : ℕ) → j < 4 → (b : List ℕ) → IsScheduled 64 b (word_list j w.now)
-        → lane j v.now ≡ rounds (lane j h.now) (schedule b 48) (4 * turns) → lane j result ≡ compress_of (lane j h.now) b }
+        → lane j v.now ≡ rounds (lane j h.now) (schedule b 48) (4 * turns)
+        → lane j result ≡ compress_of (lane j h.now) b }
 {
     let mut v = *v;
     for turn in turns..16 {
