@@ -65,7 +65,7 @@ none_from_good role size bytes g =
 
 -- ---- what a good file has
 
-byte_is : (at wanted : ℕ) (bytes : List ℕ) → at < length bytes → has_other at wanted bytes ≡ false → get_or bytes at 0 ≡ wanted
+pub byte_is : (at wanted : ℕ) (bytes : List ℕ) → at < length bytes → has_other at wanted bytes ≡ false → get_or bytes at 0 ≡ wanted
 byte_is at wanted bytes l none = by_case (nat_lt at (length bytes)) (nat_eq (get_or bytes at 0) wanted) (lt-ltb at (length bytes) l) refl none
   where
     by_case : (b e : Bool) → b ≡ true → nat_eq (get_or bytes at 0) wanted ≡ e → (b && not e) ≡ false → get_or bytes at 0 ≡ wanted
@@ -73,7 +73,7 @@ byte_is at wanted bytes l none = by_case (nat_lt at (length bytes)) (nat_eq (get
     by_case true false hb he none = cc
     by_case false e hb he none = cc
 
-no_other : (at wanted : ℕ) (bytes : List ℕ) → get_or bytes at 0 ≡ wanted → has_other at wanted bytes ≡ false
+pub no_other : (at wanted : ℕ) (bytes : List ℕ) → get_or bytes at 0 ≡ wanted → has_other at wanted bytes ≡ false
 no_other at wanted bytes e = by_case (nat_lt at (length bytes)) (nat_eq (get_or bytes at 0) wanted) (eq-eqb (get_or bytes at 0) wanted e)
   where
     by_case : (b same : Bool) → same ≡ true → (b && not same) ≡ false
@@ -81,12 +81,12 @@ no_other at wanted bytes e = by_case (nat_lt at (length bytes)) (nat_eq (get_or 
     by_case true false h = cc
     by_case false same h = refl
 
-is_sealed_by : (n : ℕ) (bytes : List ℕ) → length bytes - 32 ≡ n → is_sealed bytes ≡ true → drop n bytes ≡ sha256 (take n bytes)
+pub is_sealed_by : (n : ℕ) (bytes : List ℕ) → length bytes - 32 ≡ n → is_sealed bytes ≡ true → drop n bytes ≡ sha256 (take n bytes)
 unfolding is_sealed
 is_sealed_by n bytes size h =
     subst (λ (k : ℕ). drop k bytes ≡ sha256 (take k bytes)) size ((bytes_eq-Decides (drop (length bytes - 32) bytes) (sha256 (take (length bytes - 32) bytes))).0 h)
 
-sealed_is : (n : ℕ) (body bytes : List ℕ) → bytes ≡ sealed body → length body ≡ n → length bytes - 32 ≡ n → is_sealed bytes ≡ true
+pub sealed_is : (n : ℕ) (body bytes : List ℕ) → bytes ≡ sealed body → length body ≡ n → length bytes - 32 ≡ n → is_sealed bytes ≡ true
 unfolding is_sealed
 sealed_is n body bytes e l size =
     let parts = sealed_parts n body l in

@@ -7,10 +7,11 @@ pub enum BadDeal {
     /// The file has fewer than four bytes, or does not begin with `PSID`.
     #[error("no deal file")]
     Magic,
-    /// The file has another version than 2. `found` is its version.
+    /// The file has another version than the one that is read: 2, or 1 where it is to be renewed. `found` is its
+    /// version.
     #[error("a deal file of version {found}")]
     Version { found: u8 },
-    /// The file is not for the end that reads it. `found` is its role: 0 is the receiver's, 1 the
+    /// The file is not for the end that reads it, or for no end. `found` is its role: 0 is the receiver's, 1 the
     /// sender's, and others are no end's.
     #[error("a deal file of role {found}")]
     Role { found: u8 },

@@ -41,7 +41,7 @@ fn receiver_in(alloc: Global, bytes: &[u8]) -> Result<ReceiverDeal, AllocError>
     requires { bad_deal 0 receiver_size bytes.now ≡ None }
     ensures { IfOk result (λ deal. deal ≡ receiver_of bytes.now) }
 {
-    let head = Head::read(bytes);
+    let head = Head::read(bytes, bytes[47]);
     let pairs = pairs_in(alloc, &bytes[48..])?;
     Ok(ReceiverDeal { head, pairs })
 }
@@ -66,7 +66,7 @@ fn sender_in(alloc: Global, bytes: &[u8]) -> Result<SenderDeal, AllocError>
     requires { bad_deal 1 sender_size bytes.now ≡ None }
     ensures { IfOk result (λ deal. deal ≡ sender_of bytes.now) }
 {
-    let head = Head::read(bytes);
+    let head = Head::read(bytes, bytes[47]);
     let choice = Word512::from_bytes(&array_at(bytes, 48));
     let seeds = seeds_in(alloc, &bytes[112..])?;
     Ok(SenderDeal {

@@ -8,7 +8,7 @@ use crate::arrays::array_at;
 use crate::role::Role;
 use std::alloc::{AllocError, Global};
 
-/// The version of the deal files that are read and written.
+/// The version of the deal files that are written, and of those that are read but to be renewed.
 pub const VERSION: u8 = 2;
 
 /// What both deals of a pair hold.
@@ -27,21 +27,21 @@ pub struct Head {
 }
 
 impl Head {
-    /// The head that the first 48 bytes of a deal file hold.
-    pub fn read(bytes: &[u8]) -> Head
-        requires { 48 ≤ length bytes.now }
+    /// The head that the first 47 bytes of a deal file hold, with so many rows of the stash.
+    pub fn read(bytes: &[u8], stash: u8) -> Head
+        requires { 47 ≤ length bytes.now }
         ensures id { result.id ≡ take 16 (drop 6 bytes.now) }
         ensures session { result.session ≡ from_be_bytes w64 (take 8 (drop 22 bytes.now)) }
         ensures key { result.key ≡ take 16 (drop 30 bytes.now) }
         ensures tag_length { result.tag_length ≡ slice_index bytes.now 46 }
-        ensures stash { result.stash ≡ slice_index bytes.now 47 }
+        ensures stash { result.stash ≡ stash }
     {
         Head {
             id: array_at(bytes, 6),
             session: u64::from_be_bytes(array_at(bytes, 22)),
             key: array_at(bytes, 30),
             tag_length: bytes[46],
-            stash: bytes[47],
+            stash,
         }
     }
 

@@ -3,7 +3,7 @@ ghost use Rattle.std.specs.Prelude.{◌≡◌, ◌≤◌, ◌<◌, ◌^◌, leng
 ghost use Rattle.psi_spec.specs.Deals.{fits_tag_length as tag_length_fits, fits_stash as stash_fits};
 ghost use Rattle.psi_spec.specs.DealFiles.{has_magic as magic_of, has_other as other_at, is_sealed as sealed_by};
 ghost use Rattle.psi_deal.specs.Roles.{role_byte, role_size};
-ghost use Rattle.psi_deal.specs.BadDeals.{bad_deal, bad_request};
+ghost use Rattle.psi_deal.specs.BadDeals.{bad_deal, bad_request, has_above as above_at};
 
 use crate::errors::BadDeal;
 use crate::head::VERSION;
@@ -11,23 +11,30 @@ use crate::role::Role;
 use psi_base::STASH_LIMIT;
 use sha2::{Digest, Sha256};
 
-// Whether bytes begin with `PSID`.
-fn has_magic(bytes: &[u8]) -> bool
+/// Whether bytes begin with `PSID`.
+pub fn has_magic(bytes: &[u8]) -> bool
     ensures { result ≡ magic_of bytes.now }
 {
     bytes.len() >= 4 && &bytes[..4] == b"PSID".as_slice()
 }
 
-// Whether there is a byte at a place, and another one than is wanted.
-fn has_other(bytes: &[u8], at: usize, wanted: u8) -> bool
+/// Whether there is a byte at a place, and another one than is wanted.
+pub fn has_other(bytes: &[u8], at: usize, wanted: u8) -> bool
     ensures { result ≡ other_at at wanted bytes.now }
 {
     at < bytes.len() && bytes[at] != wanted
 }
 
-// Whether the last 32 bytes are the hash of those before.
+/// Whether there is a byte at a place, and it is above a number.
+pub fn has_above(bytes: &[u8], at: usize, most: u8) -> bool
+    ensures { result ≡ above_at at most bytes.now }
+{
+    at < bytes.len() && bytes[at] > most
+}
+
+/// Whether the last 32 bytes are the hash of those before.
 #[tactic(auto, unfolding(psi_spec::specs::DealFiles::is_sealed))]
-fn is_sealed(bytes: &[u8]) -> bool
+pub fn is_sealed(bytes: &[u8]) -> bool
     requires { 32 ≤ length bytes.now }
     ensures { result ≡ sealed_by bytes.now }
 {
@@ -35,8 +42,8 @@ fn is_sealed(bytes: &[u8]) -> bool
     seal == Sha256::digest(body).as_slice()
 }
 
-// Whether a tag can have so many bytes.
-fn fits_tag_length(tag_length: u8) -> bool
+/// Whether a tag can have so many bytes.
+pub fn fits_tag_length(tag_length: u8) -> bool
     ensures { result ≡ tag_length_fits tag_length }
 {
     (1..=16).contains(&tag_length)

@@ -8,6 +8,7 @@ mod errors;
 mod files;
 mod head;
 mod judging;
+mod old_files;
 mod pairing;
 mod receiver;
 mod role;
@@ -18,9 +19,12 @@ pub use columns::fill_column;
 pub use dealing::deal;
 pub use errors::{BadDeal, DealField};
 pub use files::{read_receiver, read_sender, write_receiver, write_sender};
+pub use old_files::{OldDeal, read_old};
 pub use pairing::deals_differ;
 pub use receiver::ReceiverDeal;
 pub use sender::SenderDeal;
 
+#[cfg(test)]
+mod old_tests;
 #[cfg(test)]
 mod tests;

@@ -96,8 +96,30 @@ impl ReceiverDeal {
         ensures zero_clean { IsCleanMatrix a0.new }
         ensures one_clean { IsCleanMatrix a1.new }
     {
-        put_columns(&self.pairs, 0, self.head.session, a0);
-        put_columns(&self.pairs, 1, self.head.session, a1);
+        self.zero_columns(a0);
+        self.one_columns(a1);
+    }
+
+    /// Makes the columns those of the zero seeds.
+    pub fn zero_columns(&self, out: &mut Columns)
+        ensures columns { out.new ≡ record {
+          rows = out.old.rows;
+          columns = zero_columns self.now out.old.rows;
+        } }
+        ensures clean { IsCleanMatrix out.new }
+    {
+        put_columns(&self.pairs, 0, self.head.session, out);
+    }
+
+    /// Makes the columns those of the one seeds.
+    pub fn one_columns(&self, out: &mut Columns)
+        ensures columns { out.new ≡ record {
+          rows = out.old.rows;
+          columns = one_columns self.now out.old.rows;
+        } }
+        ensures clean { IsCleanMatrix out.new }
+    {
+        put_columns(&self.pairs, 1, self.head.session, out);
     }
 }
 
