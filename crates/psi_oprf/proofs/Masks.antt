@@ -1,9 +1,7 @@
 -- Columns that hide codes.
-use Rattle.std.proofs.Common.{◌≡◌, ◌≢◌, ◌+◌, ◌%◌, ◌<◌, ◌∙◌, ℕ, List, [], length, get_or, sym, ap, arith, ext_get_or}
-use Rattle.std.proofs.lemmas.List.{get_or-set_same, get_or-set_other}
+use Rattle.std.proofs.Common.{◌≡◌, ◌+◌, ◌%◌, ◌<◌, ◌∙◌, ℕ, List, [], length, get_or, sym, arith, ext_get_or}
 use Rattle.psi_spec.specs.Bits.{bit_of, xor}
 use Rattle.psi_spec.specs.Columns.{column_bytes, row_of}
-use Rattle.psi_spec.specs.Matrices.{Matrix, column_of, with_column}
 use Rattle.psi_spec.specs.ColumnSets.{ColumnSets, masked, masked_columns}
 use Rattle.psi_spec.proofs.Xor.{xor-assoc, xor-comm, length-xor, bit_of-xor}
 use Rattle.psi_spec.proofs.Packing.{bit_of-row_of}

@@ -1,5 +1,5 @@
 // The bins of many digests, four side by side.
-ghost use Rattle.std.specs.Prelude.{◌≡◌, ◌≤◌, ◌%◌, length, map};
+ghost use Rattle.std.specs.Prelude.{◌≡◌, ◌≤◌, ◌<◌, ◌%◌, All, length, map};
 ghost use Rattle.psi_oprf.specs.Candidates.{digest_candidates};
 
 use crate::formulas::{bins_in, candidates};
@@ -67,7 +67,8 @@ fn candidates_by_one(key: &[u8; 16], digests: &[[u8; 32]], bins: u32, out: &mut 
 pub fn candidates_of(key: &[u8; 16], digests: &[[u8; 32]], bins: u32, out: &mut [[u32; 3]])
     requires bins { 1 ≤ bins }
     requires as_many { length digests.now ≡ length out.old }
-    ensures { out.new ≡ map (digest_candidates key.now bins) digests.now }
+    ensures candidates { out.new ≡ map (digest_candidates key.now bins) digests.now }
+    ensures below { All (λ rows. All (λ row. row < bins) rows) out.new }
 {
     let fours = digests.len() / 4 * 4;
     let (digests, last_digests) = digests.split_at(fours);

@@ -10,7 +10,7 @@ mod tag_batches;
 
 pub use bin_batches::candidates_of;
 pub use code_batches::{codes, codes_at};
-pub use columns::{mask, open_column};
+pub use columns::{change, mask, open_column, xor_columns};
 pub use formulas::{Tag, bin_of, candidates, code, own_tag, peer_tag, tag_into};
 pub use psi_bits::Word512;
 pub use tag_batches::tags;

@@ -1,5 +1,7 @@
-//! Values that were computed by other programs.
-use crate::{bin_of, candidates, code, mask, open_column, own_tag, peer_tag, tag_into};
+//! Values that were computed by other programs, and small columns.
+ghost use Rattle.std.specs.Prelude.{◌<◌};
+
+use crate::{bin_of, candidates, change, code, mask, open_column, own_tag, peer_tag, tag_into};
 use psi_base::NoMemory;
 use psi_bits::{Columns, Rows, Word512};
 
@@ -94,5 +96,42 @@ fn a_masked_column_is_opened(rt: HostRuntime) -> Result<(), NoMemory> {
     assert_eq!(rt; a0.column(301), [0x0f, 0].as_slice());
     open_column(&mut a1, &word, 301, out.column(301));
     assert_eq!(rt; a1.column(301), [0x0f, 1].as_slice());
+    Ok(())
+}
+
+// A word with these bits in one byte, and no other.
+fn word_with(byte: usize, bits: u8) -> Word512
+    requires { byte < 64 }
+{
+    let mut bytes = [0; 64];
+    bytes[byte] = bits;
+    Word512::from_bytes(&bytes)
+}
+
+#[test]
+fn columns_that_are_not_chosen_are_changed(rt: HostRuntime) -> Result<(), NoMemory> {
+    let mut zeros = Columns::zero(rt.alloc(), 3)?;
+    let mut ones = Columns::zero(rt.alloc(), 3)?;
+    let mut room = Columns::zero(rt.alloc(), 3)?;
+    assert_eq!(rt; zeros.set_column(9, &[0b001]), Ok(()));
+    assert_eq!(rt; ones.set_column(9, &[0b111]), Ok(()));
+    assert_eq!(rt; ones.set_column(300, &[0b010]), Ok(()));
+    // Of column 9 the choice word chooses the one column, and of column 300 the zero column. The words differ in bit 9
+    // of row 2 and in bit 300 of row 0; in row 1 they are the same.
+    let choice = word_with(1, 0b10);
+    let mut words = Rows::with_rows(rt.alloc(), 3)?;
+    let mut others = Rows::with_rows(rt.alloc(), 3)?;
+    *words.row_mut(1) = word_with(1, 0b10);
+    *others.row_mut(1) = word_with(1, 0b10);
+    *words.row_mut(2) = word_with(1, 0b10);
+    *others.row_mut(0) = word_with(37, 0b1_0000);
+    change(&mut zeros, &mut ones, &choice, &words, &others, &mut room);
+    assert_eq!(rt; zeros.column(9), [0b101].as_slice());
+    assert_eq!(rt; ones.column(9), [0b111].as_slice());
+    assert_eq!(rt; zeros.column(300), [0].as_slice());
+    assert_eq!(rt; ones.column(300), [0b011].as_slice());
+    change(&mut zeros, &mut ones, &choice, &words, &others, &mut room);
+    assert_eq!(rt; zeros.column(9), [0b001].as_slice());
+    assert_eq!(rt; ones.column(300), [0b010].as_slice());
     Ok(())
 }
