@@ -17,6 +17,9 @@ mod session;
 #[cfg(test)]
 mod session_tests;
 mod steps;
+mod stream;
+#[cfg(test)]
+mod stream_tests;
 #[cfg(test)]
 mod tests;
 
@@ -25,3 +28,4 @@ pub use marking::mark;
 pub use receiver::ReceiverCore;
 pub use rows::row_words;
 pub use run::run_receiver;
+pub use stream::receiver_stream;

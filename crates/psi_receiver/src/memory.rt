@@ -17,7 +17,7 @@ use psi_items::Items;
 use std::alloc::Global;
 
 /// The bytes of a hello's frame.
-const HELLO: u32 = 34;
+pub(crate) const HELLO: u32 = 34;
 
 /// All memory of a session, taken at once.
 #[derive(Drop)]

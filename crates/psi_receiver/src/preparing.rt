@@ -19,8 +19,8 @@ use psi_bits::{Columns, Rows};
 use psi_cuckoo::Placement;
 use psi_deal::ReceiverDeal;
 use psi_items::Items;
-use psi_lanes::flip;
-use psi_oprf::mask;
+use psi_lanes::{flip, flip_back};
+use psi_oprf::xor_columns;
 use std::alloc::Global;
 
 /// What a session is made of.
@@ -32,7 +32,8 @@ pub(crate) struct Prepared {
     pub(crate) own: OwnTags,
 }
 
-// The rows of the zero columns, and the masked columns that hide these words.
+// The rows of the zero columns, and the masked columns that hide these words. One matrix has the zero columns and then
+// the one columns, and the words give their room to the rows.
 fn masked(alloc: Global, deal: &ReceiverDeal, words: Rows) -> Result<(Rows, Columns), NoMemory>
     ensures count { IfOk result (λ made. length made.0 ≡ length words) }
     ensures own { IfOk result (λ made. (row : ℕ) → row < length words →
@@ -43,19 +44,20 @@ fn masked(alloc: Global, deal: &ReceiverDeal, words: Rows) -> Result<(Rows, Colu
     }) }
     ensures clean { IfOk result (λ made. IsCleanMatrix made.1) }
 {
-    let mut zeros = Columns::zero(alloc, words.rows())?;
-    let mut ones = Columns::zero(alloc, words.rows())?;
     let mut sent = Columns::zero(alloc, words.rows())?;
-    deal.columns(&mut zeros, &mut ones);
-    mask(&zeros, &ones, &words, &mut sent);
-    // The words are hidden now, and their room is free for the rows of the zero columns.
+    let mut dealt = Columns::zero(alloc, words.rows())?;
+    flip_back(&words, &mut sent);
+    deal.zero_columns(&mut dealt);
     let mut own = words;
-    flip(&zeros, &mut own);
+    flip(&dealt, &mut own);
+    xor_columns(&mut sent, &dealt);
+    deal.one_columns(&mut dealt);
+    xor_columns(&mut sent, &dealt);
     Ok((own, sent))
 }
 
 /// Makes all that a session is made of, for items with these digests and slots. It is refused only where memory is
-/// wanting, and takes four matrices at most, of which it leaves one.
+/// wanting, and takes three matrices at most, of which it leaves one.
 pub(crate) fn prepare(
     alloc: Global,
     items: &Items,
