@@ -13,7 +13,7 @@ ghost use Rattle.psi_audit.specs.Verdicts.{consistent, slots_fault, verdict_of, 
 
 use crate::colliding::collisions;
 use crate::comparing::Comparison;
-use crate::hashing::{item_candidates, item_digests};
+use crate::hashing::item_candidates;
 use crate::inputs::Inputs;
 use crate::verdict::Verdict;
 use psi_base::{NoMemory, Places, bins};
@@ -133,7 +133,7 @@ pub fn audit(
     if let Some(field) = deals_differ(receiver, sender) {
         return Ok(Verdict::DealsDiffer(field));
     }
-    let digests = item_digests(alloc, x)?;
+    let digests = x.digests(alloc)?;
     match recorded_placement(alloc, &digests, x, receiver, log.slots()) {
         Ok(placement) => {
             let inputs = Inputs {

@@ -7,8 +7,9 @@ ghost use Rattle.psi_audit.specs.Naming.{AreInputs, AreRowsOf};
 
 use crate::inputs::Inputs;
 use psi_base::{NoMemory, rows};
-use psi_bits::{Columns, Rows, flip_plain};
+use psi_bits::{Columns, Rows};
 use psi_deal::ReceiverDeal;
+use psi_lanes::flip;
 use psi_receiver::row_words;
 use std::alloc::Global;
 
@@ -30,10 +31,9 @@ fn zero_rows(alloc: Global, deal: &ReceiverDeal, count: u32) -> Result<Rows, NoM
         slice_index_or made row [] ≡ row_of (zero_columns deal.now count) row) }
 {
     let mut zeros = Columns::zero(alloc, count)?;
-    let mut ones = Columns::zero(alloc, count)?;
     let mut made = Rows::with_rows(alloc, count)?;
-    deal.columns(&mut zeros, &mut ones);
-    flip_plain(&zeros, &mut made);
+    deal.zero_columns(&mut zeros);
+    flip(&zeros, &mut made);
     Ok(made)
 }
 

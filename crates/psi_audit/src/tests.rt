@@ -1,7 +1,7 @@
 //! Audits of small sessions.
 ghost use Rattle.psi_spec.specs.Deals.{ArePair};
 
-use crate::hashing::{item_candidates, item_digests};
+use crate::hashing::item_candidates;
 use crate::{Verdict, audit};
 use psi_base::{NoMemory, Pairs, Places, RECORD_LIMIT, bins};
 use psi_cuckoo::{BadSlots, place};
@@ -45,7 +45,7 @@ fn record(
     requires { ArePair receiver.now sender.now }
 {
     let bin_count = bins(x.len());
-    let digests = item_digests(alloc, x)?;
+    let digests = x.digests(alloc)?;
     let candidates = item_candidates(alloc, receiver.key(), bin_count, &digests)?;
     let placement = place(alloc, &candidates, bin_count, receiver.stash())
         .ok()
