@@ -98,7 +98,7 @@ kept known words bytes file before after (Err why) e h =
 -- a set that got slots, and what came after it
 pub then_placed : (known : Known) (words : List (List ℕ)) (word : ℕ) (set : Placing) (next : List Slot → Tree) (before after : Outside) (slots : List Slot) (why due : Status) → why ≡ due
     → Places word set (Ok slots) → Runs known words (next slots) before (stopped due after)
-    → Runs known words (places word set next) before (ended (record { status = why; placement = Some slots; wire = None }) after)
+    → Runs known words (places word set next) before (ended (record { status = why; placement = Some slots; second = None; wire = None }) after)
 then_placed known words word set next before after slots why due e is rest =
-    subst (λ (s : Status). Runs known words (places word set next) before (ended (record { status = s; placement = Some slots; wire = None }) after)) (sym e)
+    subst (λ (s : Status). Runs known words (places word set next) before (ended (record { status = s; placement = Some slots; second = None; wire = None }) after)) (sym e)
     (places_on known words word set next before slots (stopped due after) is rest)

@@ -1,5 +1,5 @@
 -- What a run that read and judged a file answers and leaves.
-use Rattle.std.proofs.Common.{◌≡◌, inl, inr, ℕ, false, List, [], Option, Some, None, Ok, Err, refl}
+use Rattle.std.proofs.Common.{◌≡◌, inl, inr, ℕ, false, List, [], Option, Some, None, Ok, Err, refl, sym, subst}
 use Rattle.std.specs.declared.result.Result.{Result}
 use Rattle.psi_spec.specs.DealFiles.{receiver_of, receiver_size, sender_of, sender_size}
 use Rattle.psi_spec.specs.Deals.{ReceiverDeal, SenderDeal}
@@ -8,13 +8,16 @@ use Rattle.psi_spec.specs.Limits.{file_limit, record_limit}
 use Rattle.psi_spec.specs.Placement.{Slot}
 use Rattle.psi_spec.specs.Records.{LoggedSession, logged_of}
 use Rattle.psi_base.specs.Outside.{Known, Outside}
-use Rattle.psi_deal.specs.BadDeals.{bad_deal}
+use Rattle.psi_deal.specs.BadDeals.{bad_deal, bad_old_deal}
+use Rattle.psi_deal.specs.OldDeals.{IsOldFile, old_deal_of}
+use Rattle.psi_deal.specs.declared.old_files.OldDeal.{OldDeal}
+use Rattle.psi_deal.proofs.OldFaultless.{good_old_file}
 use Rattle.psi_deal.specs.declared.errors.BadDeal.{BadDeal as DealFault}
 use Rattle.psi_items.specs.Reading.{bad_items_of}
 use Rattle.psi_log.specs.BadRecords.{bad_record}
 use Rattle.psi_log.specs.declared.errors.BadRecord.{BadRecord as RecordFault}
-use Rattle.psi_top.specs.Files.{items_in, judged_items, judged_receiver, judged_record, judged_sender, reads_items, reads_receiver, reads_record, reads_sender, receiver_in, record_in, sender_in}
-use Rattle.psi_top.specs.JudgedFiles.{HasBadLine, HasBadReceiverDeal, HasBadRecord, HasBadSenderDeal, HasItems, HasReceiverDeal, HasRecord, HasSenderDeal}
+use Rattle.psi_top.specs.Files.{items_in, judged_items, judged_old, judged_receiver, judged_record, judged_sender, old_deal_in, reads_items, reads_old, reads_receiver, reads_record, reads_sender, receiver_in, record_in, sender_in}
+use Rattle.psi_top.specs.JudgedFiles.{HasBadLine, HasBadOldDeal, HasBadReceiverDeal, HasBadRecord, HasBadSenderDeal, HasItems, HasOldDeal, HasReceiverDeal, HasRecord, HasSenderDeal}
 use Rattle.psi_top.specs.Promises.{IsAnswered, IsSilent, IsUnread, Leaves, WasRead}
 use Rattle.psi_top.specs.Tree.{Tree, reads, decides, End}
 use Rattle.psi_top.specs.declared.status.Status.{Status}
@@ -228,3 +231,47 @@ pub answered_record : (known : Known) (words : List (List ℕ)) (word : ℕ) (ne
     → AtFile known words before word record_limit record_in slots why after (λ log. IsAnswered known words false (next log) before slots why after)
 unfolding reads_record
 answered_record known words word next before slots why after h = answered_file known words word record_limit record_in next before slots why after h
+
+-- ---- deal files of version 1
+
+old_good : (word : ℕ) (bytes : List ℕ) (deal : OldDeal) → old_deal_in word bytes ≡ Ok deal → (bad_old_deal bytes ≡ None) × (deal ≡ old_deal_of bytes)
+unfolding old_deal_in
+old_good word bytes deal e = by_fault (bad_old_deal bytes) refl e
+  where
+    by_fault : (fault : Option DealFault) → bad_old_deal bytes ≡ fault → judged_old word bytes fault ≡ Ok deal → (bad_old_deal bytes ≡ None) × (deal ≡ old_deal_of bytes)
+    by_fault None f e = (f, let g : Ok (old_deal_of bytes) ≡ Ok deal = e in cc g)
+    by_fault (Some fault) f e = cc e
+
+pub old_bad : (word : ℕ) (bytes : List ℕ) (why : Status) → old_deal_in word bytes ≡ Err why
+    → (fault : DealFault) × (bad_old_deal bytes ≡ Some fault) × (why ≡ status.BadDeal word fault)
+unfolding old_deal_in
+old_bad word bytes why e = by_fault (bad_old_deal bytes) refl e
+  where
+    by_fault : (fault : Option DealFault) → bad_old_deal bytes ≡ fault → judged_old word bytes fault ≡ Err why
+        → (fault : DealFault) × (bad_old_deal bytes ≡ Some fault) × (why ≡ status.BadDeal word fault)
+    by_fault None f e = cc e
+    by_fault (Some fault) f e = (fault, f, cc e)
+
+pub has_old : (known : Known) (words : List (List ℕ)) (before : Outside) (word : ℕ) (bytes : List ℕ) (deal : OldDeal)
+    → WasRead known words before word file_limit bytes → old_deal_in word bytes ≡ Ok deal → HasOldDeal known words before word deal
+has_old known words before word bytes deal read e =
+    let good = old_good word bytes deal e in
+    record { bytes = bytes; read = read; file = subst (λ (d : OldDeal). IsOldFile d bytes) (sym good.1) (good_old_file bytes read.are_bytes good.0) }
+
+pub has_bad_old : (known : Known) (words : List (List ℕ)) (before : Outside) (word : ℕ) (bytes : List ℕ) (fault : DealFault)
+    → WasRead known words before word file_limit bytes → bad_old_deal bytes ≡ Some fault → HasBadOldDeal known words before word fault
+has_bad_old known words before word bytes fault read e = record { bytes = bytes; read = read; bad = e }
+
+pub left_old : (known : Known) (words : List (List ℕ)) (word : ℕ) (next : OldDeal → Tree) (before : Outside) (end : End)
+    → Leaves known words (reads_old word next) before end
+    → (deal : OldDeal) × HasOldDeal known words before word deal × Leaves known words (next deal) before end
+unfolding reads_old
+left_old known words word next before end h =
+    let read = left_decides known words (old_deal_in word h.0) next before end h.2 in
+    (read.0, has_old known words before word h.0 read.0 h.1 read.1, read.2)
+
+pub answered_old : (known : Known) (words : List (List ℕ)) (word : ℕ) (next : OldDeal → Tree) (before : Outside)
+    (slots : List (List Slot)) (why : Status) (after : Outside) → IsAnswered known words false (reads_old word next) before slots why after
+    → AtFile known words before word file_limit (old_deal_in word) slots why after (λ deal. IsAnswered known words false (next deal) before slots why after)
+unfolding reads_old
+answered_old known words word next before slots why after h = answered_file known words word file_limit (old_deal_in word) next before slots why after h

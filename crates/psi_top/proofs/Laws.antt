@@ -10,7 +10,7 @@ use Rattle.psi_top.specs.Commands.{Answers, AnswersBy, tree_of}
 use Rattle.psi_frames.specs.Dialogue.{Reading, talked}
 use Rattle.psi_top.specs.Due.{Contents, Due, lacks, long, refusal, unplaced, reached, due, told, without, judged, heard}
 use Rattle.psi_top.specs.Form.{command_of}
-use Rattle.psi_top.specs.Promises.{Completes, CountsBy, DoneLeaves, IsAnswered, IsBadWords, IsCalm, IsCounted, IsDue, IsOfCommand, IsReady, IsStoppedAt, IsWhatIsDue, Leaves, OnTold, RunsThrough, StandsAt}
+use Rattle.psi_top.specs.Promises.{Completes, CountsBy, DoneLeaves, IsAnswered, IsBadWords, IsCalm, IsCounted, IsDue, IsOfCommand, IsReady, IsStoppedAt, IsStoppedBefore, IsWhatIsDue, Leaves, OnTold, RunsThrough, StandsAt, StandsBy}
 use Rattle.psi_top.specs.Tree.{Effect, says, puts, Placing, Tree, reads, refuses, places, opens, talks, ends, End}
 use Rattle.psi_top.specs.Walk.{IsVerdict, Runs}
 use Rattle.psi_top.specs.declared.form.Command.{Command}
@@ -203,22 +203,37 @@ answers_complete known words before end h =
 
 -- ---- what stands
 
+-- a run that was stopped early where all is there and good
+stopped_before : (d : Contents → Due) (contents : Contents) (before : Outside) (why : Status) (after : Outside) (mid : Outside) (effects : List Effect)
+    → d contents ≡ reached mid effects → Early d contents before why after → IsStoppedBefore why d contents
+stopped_before d contents before why after mid effects e (verdict v h) = absurd (let f : refusal why ≡ reached mid effects = sym h ∙ e in cc f)
+stopped_before d contents before why after mid effects e (unheard frame s h) = absurd (let f : refusal (status.BadFrame frame) ≡ reached mid effects = sym h ∙ e in cc f)
+stopped_before d contents before why after mid effects e (short_of offset s h) = absurd (let f : refusal (status.PeerEnded offset) ≡ reached mid effects = sym h ∙ e in cc f)
+stopped_before d contents before why after mid effects e (missing word s h rose steady) = subst (λ (x : Status). IsStoppedBefore x d contents) (sym s) h
+stopped_before d contents before why after mid effects e (longer word taken bytes s h there within) =
+    absurd (let f : long word ≡ reached mid effects = sym h ∙ e in cc f)
+stopped_before d contents before why after mid effects e (excluded word set items s h c) =
+    absurd (let f : unplaced word set ≡ reached mid effects = sym h ∙ e in cc f)
+stopped_before d contents before why after mid effects e (unlinked s rose unsteady) = subst (λ (x : Status). IsStoppedBefore x d contents) (sym s) tt
+stopped_before d contents before why after mid effects e (wanting s) = subst (λ (x : Status). IsStoppedBefore x d contents) (sym s) tt
+
 met_stands : (words : List (List ℕ)) (d : Contents → Due) (contents : Contents) (before : Outside) (why : Status) (after : Outside)
-    → Met words d contents before why after → StandsAt words before why after (d contents)
-met_stands words d contents before why after (early u h) = untouched (d contents)
+    → Met words d contents before why after → StandsAt words before why after d contents
+met_stands words d contents before why after (early u h) = by_due (d contents) refl
   where
-    untouched : (x : Due) → StandsAt words before why after x
-    untouched (lacks word) = u
-    untouched (long word) = u
-    untouched (refusal x) = u
-    untouched (unplaced word set) = u
-    untouched (reached mid effects) = inr u
-met_stands words d contents before why after (late mid effects t h s) = subst (λ (x : Due). StandsAt words before why after x) (sym h) (inl s)
+    by_due : (x : Due) → d contents ≡ x → StandsBy words before why after (IsStoppedBefore why d contents) x
+    by_due (lacks word) e = u
+    by_due (long word) e = u
+    by_due (refusal x) e = u
+    by_due (unplaced word set) e = u
+    by_due (reached mid effects) e = inr (stopped_before d contents before why after mid effects e h, u)
+met_stands words d contents before why after (late mid effects t h s) =
+    subst (λ (x : Due). StandsBy words before why after (IsStoppedBefore why d contents) x) (sym h) (inl s)
 
 pub answers_stand : (known : Known) (words : List (List ℕ)) (before : Outside) (end : End) → Answers known words before end
-    → OnTold words before end.placed (λ d contents. StandsAt words before end.status end.left (d contents))
+    → OnTold words before end.placed (StandsAt words before end.status end.left)
 answers_stand known words before end h =
-    met_told known words before end h (λ d contents. StandsAt words before end.status end.left (d contents))
+    met_told known words before end h (StandsAt words before end.status end.left)
     (λ d contents counted m. met_stands words d contents before end.status end.left m)
 
 -- ---- what Done leaves

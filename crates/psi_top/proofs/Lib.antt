@@ -1,6 +1,7 @@
 pub mod Answered
 pub mod AuditLaws
 pub mod CollisionLines
+pub mod ColumnFiles
 pub mod Counted
 pub mod DealLaws
 pub mod DealWords
@@ -22,11 +23,15 @@ pub mod NamedWords
 pub mod Placed
 pub mod Played
 pub mod ReceiveLaws
+pub mod RenewLaws
 pub mod SendLaws
 pub mod Standing
 pub mod StreamLists
 pub mod TrialLaws
 pub mod TrialPlayed
+pub mod TwinLaws
+pub mod TwinSteps
+pub mod TwinVerdicts
 pub mod Unplaced
 pub mod Verdicts
 pub mod Walked

@@ -6,7 +6,7 @@ use Rattle.psi_top.specs.Words.{Forms, bad_from, bad_word, forms_of, word_at}
 use Rattle.psi_spec.proofs.Tags.{same_from_bytes_eq}
 use Rattle.psi_top.specs.Form.{command_of, name_of}
 use Rattle.psi_top.specs.declared.form.Command.{Command}
-use Rattle.psi_top.specs.declared.form.Command.TheVariants.{Audit, Deal, Local, Make, Receive, Send, Trial}
+use Rattle.psi_top.specs.declared.form.Command.TheVariants.{Audit, Deal, Local, Make, Receive, Renew, Send, Trial, Twin}
 
 named_so : (name : List ℕ) (command found : Command) → Some found ≡ Some command → name ≡ name_of found → name ≡ name_of command
 named_so name command found e same = let f : found ≡ command = cc e in same ∙ ap name_of f
@@ -29,8 +29,10 @@ first_word words command =
     (compared (word_at words 0) command Receive _
     (compared (word_at words 0) command Make _
     (compared (word_at words 0) command Trial _
-    (compared (word_at words 0) command Audit None
-    (λ e. cc e)))))))
+    (compared (word_at words 0) command Audit _
+    (compared (word_at words 0) command Twin _
+    (compared (word_at words 0) command Renew None
+    (λ e. cc e)))))))))
 
 -- the words have the forms of the command
 pub forms_fit : (words : List (List ℕ)) (command : Command) → bad_word words ≡ None → command_of words ≡ Some command

@@ -5,7 +5,8 @@ use Rattle.psi_spec.specs.Deals.{SenderDeal}
 use Rattle.psi_spec.specs.Placement.{Slot}
 use Rattle.psi_base.specs.Outside.{Known, Outside}
 use Rattle.psi_frames.specs.Dialogue.{talked}
-use Rattle.psi_top.specs.Files.{items_in, reads_items, reads_sender, sender_in}
+use Rattle.psi_deal.specs.declared.old_files.OldDeal.{OldDeal}
+use Rattle.psi_top.specs.Files.{items_in, old_deal_in, reads_items, reads_old, reads_sender, sender_in}
 use Rattle.psi_top.specs.Promises.{IsAnswered}
 use Rattle.psi_top.specs.Tree.{Tree, reads, refuses, places, opens, talks, ends, decides}
 use Rattle.psi_top.specs.declared.status.Status.{Status}
@@ -31,6 +32,10 @@ items_place_none word next h = λ bytes. decides_none (items_in word bytes) next
 pub sender_places_none : (word : ℕ) (next : SenderDeal → Tree) → ((deal : SenderDeal) → PlacesNone (next deal)) → PlacesNone (reads_sender word next)
 unfolding PlacesNone reads_sender
 sender_places_none word next h = λ bytes. decides_none (sender_in word bytes) next h
+
+pub old_places_none : (word : ℕ) (next : OldDeal → Tree) → ((deal : OldDeal) → PlacesNone (next deal)) → PlacesNone (reads_old word next)
+unfolding PlacesNone reads_old
+old_places_none word next h = λ bytes. decides_none (old_deal_in word bytes) next h
 
 pub none_is_placed : (known : Known) (words : List (List ℕ)) (taken : Bool) (tree : Tree) (before : Outside) (slots : List (List Slot)) (why : Status) (after : Outside)
     → PlacesNone tree → IsAnswered known words taken tree before slots why after → slots ≡ []

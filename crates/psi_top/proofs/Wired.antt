@@ -6,14 +6,15 @@ use Rattle.psi_top.specs.Words.{bad_word, word_at}
 use Rattle.psi_base.specs.Outside.{Known, Outside, Writes, PrintsAll, Opens}
 use Rattle.psi_frames.specs.Dialogue.{Talks}
 use Rattle.psi_top.specs.Audit.{audit_record, audit_tree, findings_of}
+use Rattle.psi_top.specs.Twin.{twin_sets, twin_tree, twins_in}
 use Rattle.psi_top.specs.Commands.{Answers, AnswersBy, tree_of}
-use Rattle.psi_top.specs.Files.{items_in, reads_items, reads_receiver, reads_record, reads_sender, receiver_in, record_in, sender_in}
+use Rattle.psi_top.specs.Files.{items_in, old_deal_in, reads_items, reads_old, reads_receiver, reads_record, reads_sender, receiver_in, record_in, sender_in}
 use Rattle.psi_top.specs.Form.{command_of}
 use Rattle.psi_top.specs.LocalPromises.{IsWired, RunsBothEnds}
 use Rattle.psi_top.specs.Tree.{Effect, says, puts, Placing, Tree, reads, refuses, places, opens, talks, ends, decides, End, stopped}
 use Rattle.psi_top.specs.Walk.{AtCall, AtPlace, AtRefusal, AtEnd, starved, cut, passed, hungry, crowded, placed, given_up, refused, gave_up, all_done, Does, Follows, Gives, read_status, write_status, print_status, open_status, talk_status}
 use Rattle.psi_top.specs.declared.form.Command.{Command}
-use Rattle.psi_top.specs.declared.form.Command.TheVariants.{Audit, Deal, Local, Make, Receive, Send, Trial}
+use Rattle.psi_top.specs.declared.form.Command.TheVariants.{Audit, Deal, Local, Make, Receive, Renew, Send, Trial, Twin}
 use Rattle.psi_top.specs.declared.status.Status.{Status}
 use Rattle.psi_top.specs.declared.status.Status.TheVariants as status
 
@@ -111,6 +112,16 @@ deals_wired xs ys =
 audit_wired : MayBeWired false audit_tree
 audit_wired = items_wired false 1 _ (λ xs. items_wired false 2 _ (λ ys. deals_wired xs ys))
 
+twin_deals_wired : (xs others : List (List ℕ)) → MayBeWired false (reads_receiver 3 (λ receiver. reads_sender 4 (λ sender. twin_sets receiver sender xs others)))
+unfolding MayBeWired reads_receiver reads_sender
+twin_deals_wired xs others =
+    λ r_bytes. decides_wired false (receiver_in 3 r_bytes) _
+    (λ receiver s_bytes. decides_wired false (sender_in 4 s_bytes) _
+    (λ sender. decides_wired false (twins_in receiver sender xs others) _ (λ is slots other_slots. inr refl)))
+
+twin_wired : MayBeWired false twin_tree
+twin_wired = items_wired false 1 _ (λ xs. items_wired false 2 _ (λ others. twin_deals_wired xs others))
+
 -- whether a command runs a session of both ends
 runs_both : Command → Bool
 runs_both Local = true
@@ -118,7 +129,7 @@ runs_both Trial = true
 runs_both _ = false
 
 tree_wired : (command : Command) (words : List (List ℕ)) → MayBeWired (runs_both command) (tree_of command words)
-unfolding MayBeWired runs_both reads_items reads_sender reads_receiver
+unfolding MayBeWired runs_both reads_items reads_sender reads_receiver reads_old
 tree_wired Deal words = inr refl
 tree_wired Make words = inr refl
 tree_wired Trial words = λ slots. inl refl
@@ -127,6 +138,8 @@ tree_wired Send words = λ y_bytes. decides_wired false (items_in 2 y_bytes) _ (
 tree_wired Receive words =
     λ x_bytes. decides_wired false (items_in 2 x_bytes) _ (λ xs r_bytes. decides_wired false (receiver_in 3 r_bytes) _ (λ deal slots bytes. inr refl))
 tree_wired Audit words = audit_wired
+tree_wired Twin words = twin_wired
+tree_wired Renew words = λ bytes. decides_wired false (old_deal_in 1 bytes) _ (λ deal. inr refl)
 
 -- the words of such a command name it
 both_named : (words : List (List ℕ)) (command : Command) → command_of words ≡ Some command → runs_both command ≡ true → RunsBothEnds words
@@ -138,6 +151,8 @@ both_named words Send named e = cc e
 both_named words Receive named e = cc e
 both_named words Make named e = cc e
 both_named words Audit named e = cc e
+both_named words Twin named e = cc e
+both_named words Renew named e = cc e
 
 pub answers_wired : (known : Known) (words : List (List ℕ)) (before : Outside) (end : End) → Answers known words before end → IsWired words end
 unfolding MayHave

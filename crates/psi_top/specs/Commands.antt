@@ -8,12 +8,14 @@ use Rattle.psi_top.specs.Form.{command_of}
 use Rattle.psi_top.specs.Local.{local_tree}
 use Rattle.psi_top.specs.Make.{make_tree}
 use Rattle.psi_top.specs.Receive.{receive_tree}
+use Rattle.psi_top.specs.Renew.{renew_tree}
 use Rattle.psi_top.specs.Send.{send_tree}
 use Rattle.psi_top.specs.Tree.{Tree, End, stopped}
 use Rattle.psi_top.specs.Trial.{trial_tree}
+use Rattle.psi_top.specs.Twin.{twin_tree}
 use Rattle.psi_top.specs.Walk.{Runs}
 use Rattle.psi_top.specs.declared.form.Command.{Command}
-use Rattle.psi_top.specs.declared.form.Command.TheVariants.{Audit, Deal, Local, Make, Receive, Send, Trial}
+use Rattle.psi_top.specs.declared.form.Command.TheVariants.{Audit, Deal, Local, Make, Receive, Renew, Send, Trial, Twin}
 use Rattle.psi_top.specs.declared.status.Status.TheVariants.{BadWords}
 
 -- the steps of a command with these words
@@ -25,6 +27,8 @@ tree_of Receive words = receive_tree
 tree_of Make words = make_tree words
 tree_of Trial words = trial_tree words
 tree_of Audit words = audit_tree
+tree_of Twin words = twin_tree
+tree_of Renew words = renew_tree
 
 -- what a run may answer, by the bad place of its words and the command that they name
 abbrev pub AnswersBy : Known → List (List ℕ) → Outside → End → Option ℕ → Option Command → Type 0

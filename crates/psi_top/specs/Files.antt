@@ -5,7 +5,9 @@ use Rattle.psi_spec.specs.Limits.{file_limit, record_limit}
 use Rattle.psi_spec.specs.DealFiles.{receiver_of, receiver_size, sender_of, sender_size}
 use Rattle.psi_spec.specs.Deals.{ReceiverDeal, SenderDeal}
 use Rattle.psi_spec.specs.Records.{LoggedSession, logged_of}
-use Rattle.psi_deal.specs.BadDeals.{bad_deal}
+use Rattle.psi_deal.specs.BadDeals.{bad_deal, bad_old_deal}
+use Rattle.psi_deal.specs.OldDeals.{old_deal_of}
+use Rattle.psi_deal.specs.declared.old_files.OldDeal.{OldDeal}
 use Rattle.psi_deal.specs.declared.errors.BadDeal.{BadDeal as DealFault}
 use Rattle.psi_items.specs.Reading.{bad_items_of}
 use Rattle.psi_log.specs.BadRecords.{bad_record}
@@ -61,3 +63,15 @@ record_in bytes = judged_record bytes (bad_record bytes)
 -- the steps that read the record file of a word and judge it
 unfoldable pub reads_record : ℕ → (LoggedSession → Tree) → Tree
 reads_record word next = reads word record_limit (λ bytes. decides (record_in bytes) next)
+
+-- the deal that the file of version 1 of a word spells, or why it is none
+abbrev pub judged_old : ℕ → List ℕ → Option DealFault → Result OldDeal Status
+judged_old word bytes None = Ok (old_deal_of bytes)
+judged_old word bytes (Some fault) = Err (BadDeal word fault)
+
+unfoldable pub old_deal_in : ℕ → List ℕ → Result OldDeal Status
+old_deal_in word bytes = judged_old word bytes (bad_old_deal bytes)
+
+-- the steps that read the deal file of version 1 of a word and judge it
+unfoldable pub reads_old : ℕ → (OldDeal → Tree) → Tree
+reads_old word next = reads word file_limit (λ bytes. decides (old_deal_in word bytes) next)

@@ -3,7 +3,7 @@ use Rattle.std.specs.Prelude.{ℕ, List, map, Option, Some, None, codes, if◌th
 use Rattle.std.specs.Str.{bytes_eq}
 use Rattle.psi_top.specs.Words.{Form as Test, Forms, alone, are_sizes, is_count, is_name, is_output, is_seed, is_session, is_shared, word_at}
 use Rattle.psi_top.specs.declared.form.Command.{Command}
-use Rattle.psi_top.specs.declared.form.Command.TheVariants.{Audit, Deal, Local, Make, Receive, Send, Trial}
+use Rattle.psi_top.specs.declared.form.Command.TheVariants.{Audit, Deal, Local, Make, Receive, Renew, Send, Trial, Twin}
 use Rattle.psi_top.specs.declared.form.CommandForms.{CommandForms}
 use Rattle.psi_top.specs.declared.form.Form.{Form}
 use Rattle.psi_top.specs.declared.form.Form.TheVariants.{Count, Name, Output, Seed, Session, Shared, Sizes}
@@ -35,6 +35,8 @@ name_of Receive = codes "receive"
 name_of Make = codes "make"
 name_of Trial = codes "trial"
 name_of Audit = codes "audit"
+name_of Twin = codes "twin"
+name_of Renew = codes "renew"
 
 -- the command that the first word names
 abbrev pub command_of : List (List ℕ) → Option Command
@@ -46,4 +48,6 @@ command_of words =
     else if bytes_eq (word_at words 0) (codes "make") then Some Make
     else if bytes_eq (word_at words 0) (codes "trial") then Some Trial
     else if bytes_eq (word_at words 0) (codes "audit") then Some Audit
+    else if bytes_eq (word_at words 0) (codes "twin") then Some Twin
+    else if bytes_eq (word_at words 0) (codes "renew") then Some Renew
     else None

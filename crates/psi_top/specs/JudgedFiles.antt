@@ -6,7 +6,9 @@ use Rattle.psi_spec.specs.Items.{BadLine, first_bad, items_of}
 use Rattle.psi_spec.specs.Limits.{file_limit, record_limit}
 use Rattle.psi_spec.specs.Records.{LoggedSession, logged_of}
 use Rattle.psi_base.specs.Outside.{Known, Outside}
-use Rattle.psi_deal.specs.BadDeals.{bad_deal}
+use Rattle.psi_deal.specs.BadDeals.{bad_deal, bad_old_deal}
+use Rattle.psi_deal.specs.OldDeals.{IsOldFile}
+use Rattle.psi_deal.specs.declared.old_files.OldDeal.{OldDeal}
 use Rattle.psi_deal.specs.declared.errors.BadDeal.{BadDeal}
 use Rattle.psi_items.specs.Reading.{bad_items_of}
 use Rattle.psi_items.specs.declared.errors.BadItems.{BadItems}
@@ -75,3 +77,17 @@ pub record HasBadRecord (known : Known) (words : List (List ℕ)) (before : Outs
   pub bytes : List ℕ
   pub read : WasRead known words before word record_limit bytes
   pub bad : bad_record bytes ≡ Some fault
+
+-- the file of a word was read and is the file of version 1 of this deal
+pub record HasOldDeal (known : Known) (words : List (List ℕ)) (before : Outside) (word : ℕ) (deal : OldDeal)
+    : Type 0 where
+  pub bytes : List ℕ
+  pub read : WasRead known words before word file_limit bytes
+  pub file : IsOldFile deal bytes
+
+-- the file of a word was read and is no deal file of version 1, first for this reason
+pub record HasBadOldDeal (known : Known) (words : List (List ℕ)) (before : Outside) (word : ℕ) (fault : BadDeal)
+    : Type 0 where
+  pub bytes : List ℕ
+  pub read : WasRead known words before word file_limit bytes
+  pub bad : bad_old_deal bytes ≡ Some fault

@@ -12,6 +12,8 @@ pub mod Make
 pub mod Promises
 pub mod Receive
 pub mod ReceivePromises
+pub mod Renew
+pub mod RenewPromises
 pub mod Send
 pub mod SendPromises
 pub mod Texts
@@ -19,5 +21,7 @@ pub mod Transcript
 pub mod Tree
 pub mod Trial
 pub mod TrialPromises
+pub mod Twin
+pub mod TwinPromises
 pub mod Walk
 pub mod Words

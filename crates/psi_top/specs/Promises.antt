@@ -254,10 +254,25 @@ pub record Stands (words : List (List ℕ)) (effects : List Effect) (mid : Outsi
   pub printed : after.printed
       ≡ (after_part words (after_effects words mid (take whole effects)) (slice_get effects whole) part).printed
 
--- what stands, by what is due: nothing was printed or written before all was read, placed and exchanged
-abbrev pub StandsAt : List (List ℕ) → Outside → Status → Outside → Due → Type 0
-StandsAt words before why after (reached mid effects) = Stands words effects mid why after ⊎ Untouched before after
-StandsAt words before why after _ = Untouched before after
+-- the status of a run that was stopped before it had all to print and to write, though all is there and good: a file
+-- could not be read, the link failed, or memory was wanting
+abbrev pub IsStoppedBefore : Status → (Contents → Due) → Contents → Type 0
+IsStoppedBefore (FileFault word) d contents = d (without word contents) ≡ lacks word
+IsStoppedBefore LinkFault d contents = Unit {0}
+IsStoppedBefore NoMemory d contents = Unit {0}
+IsStoppedBefore _ d contents = ⊥
+
+-- what stands, by what is due
+abbrev pub StandsBy : List (List ℕ) → Outside → Status → Outside → Type 0 → Due → Type 0
+StandsBy words before why after early (reached mid effects) =
+    Stands words effects mid why after ⊎ (early × Untouched before after)
+StandsBy words before why after early _ = Untouched before after
+
+-- nothing was printed or written before all was read, placed and exchanged; and then what is due stands in order, unless
+-- the run was stopped before
+abbrev pub StandsAt : List (List ℕ) → Outside → Status → Outside → (Contents → Due) → Contents → Type 0
+StandsAt words before why after d contents =
+    StandsBy words before why after (IsStoppedBefore why d contents) (d contents)
 
 -- what a run that is done read, placed, exchanged and left, in every world: along the whole tree
 abbrev pub Leaves : Known → List (List ℕ) → Tree → Outside → End → Type 0

@@ -13,7 +13,7 @@ use Rattle.psi_frames.specs.declared.reasons.BadFrame.{BadFrame as RefusedFrame}
 use Rattle.psi_log.specs.declared.errors.BadRecord.{BadRecord as RecordFault}
 use Rattle.psi_log.specs.declared.errors.BadRecord.TheVariants as record_fault
 use Rattle.psi_top.specs.declared.status.Status.{Status}
-use Rattle.psi_top.specs.declared.status.Status.TheVariants.{Done, BadWords, BadItems as RefusedItems, BadDeal as RefusedDeal, NoPlacement, BadFrame, PeerEnded, Differs, BadSlots, BadRecord, FileFault, LinkFault, PrintFault, TooLong, DealsDiffer, NoMemory}
+use Rattle.psi_top.specs.declared.status.Status.TheVariants.{Done, BadWords, BadItems as RefusedItems, BadDeal as RefusedDeal, NoPlacement, BadFrame, PeerEnded, Differs, BadSlots, BadRecord, FileFault, LinkFault, PrintFault, TooLong, DealsDiffer, SizesDiffer, NoMemory}
 
 -- the number of a status
 abbrev pub number_of_status : Status → ℕ
@@ -32,6 +32,7 @@ number_of_status LinkFault = 11
 number_of_status PrintFault = 12
 number_of_status (TooLong word taken) = 13
 number_of_status (DealsDiffer field) = 14
+number_of_status (SizesDiffer first second) = 15
 number_of_status NoMemory = 70
 
 -- how a line about the file of a word begins
@@ -113,6 +114,11 @@ field_text deal_field.TagBytes = codes "psi: deals differ in tag bytes\n"
 field_text deal_field.StashRows = codes "psi: deals differ in stash\n"
 field_text (deal_field.Seed column) = codes "psi: deals differ in column " ++ decimal column ++ codes "\n"
 
+-- the line of two lists that have different numbers of items
+abbrev pub sizes_text : ℕ → ℕ → List ℕ
+sizes_text first second =
+    codes "psi: sizes differ: " ++ decimal first ++ codes " and " ++ decimal second ++ codes "\n"
+
 -- the line that names a status's fault, with a line feed; nothing where the run is done
 abbrev pub fault_text : Status → List ℕ
 fault_text Done = []
@@ -130,4 +136,5 @@ fault_text LinkFault = codes "psi: link fault\n"
 fault_text PrintFault = codes "psi: print fault\n"
 fault_text (TooLong word taken) = too_long_text word taken
 fault_text (DealsDiffer field) = field_text field
+fault_text (SizesDiffer first second) = sizes_text first second
 fault_text NoMemory = no_memory_text

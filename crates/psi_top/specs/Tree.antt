@@ -53,13 +53,16 @@ stopped status after = record { status = status; placed = []; wire = None; left 
 abbrev pub with_slots : List Slot → End → End
 with_slots slots end = record end { placed = slots ∷ end.placed }
 
--- the placement that an outcome carries, if it carries one
-abbrev pub slots_within : Option (List Slot) → List (List Slot)
-slots_within None = []
-slots_within (Some slots) = slots ∷ []
+-- the placements that an outcome carries, of a first and of a second set, in this order. A second without a first
+-- counts for three, with which no run ends: so no command can put its only placement in the second's place
+abbrev pub slots_within : Option (List Slot) → Option (List Slot) → List (List Slot)
+slots_within None None = []
+slots_within (Some slots) None = slots ∷ []
+slots_within (Some slots) (Some others) = slots ∷ others ∷ []
+slots_within None (Some others) = others ∷ others ∷ others ∷ []
 
 abbrev pub placements_of : Outcome → List (List Slot)
-placements_of outcome = slots_within outcome.placement
+placements_of outcome = slots_within outcome.placement outcome.second
 
 -- how a run with this outcome ended
 abbrev pub ended : Outcome → Outside → End

@@ -48,6 +48,7 @@ IsVerdict (status.Differs offset found wanted) = Unit {0}
 IsVerdict (status.BadSlots why) = Unit {0}
 IsVerdict (status.BadRecord why) = Unit {0}
 IsVerdict (status.DealsDiffer field) = Unit {0}
+IsVerdict (status.SizesDiffer first second) = Unit {0}
 IsVerdict _ = ⊥
 
 -- what a read of a file may answer and leave: what it gives are bytes

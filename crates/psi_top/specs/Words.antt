@@ -144,6 +144,18 @@ audit_forms = record {
   optional = [];
 }
 
+-- the forms of `twin`: both item files, both deal files, and the two files that are written, of which each is no file
+-- before it
+abbrev pub twin_forms : Forms
+twin_forms = record {
+  needed = alone is_name ∷ alone is_name ∷ alone is_name ∷ alone is_name ∷ is_output 1 5 ∷ is_output 1 6 ∷ [];
+  optional = [];
+}
+
+-- the forms of `renew`: the deal file of version 1, and the one of version 2, which is another file
+abbrev pub renew_forms : Forms
+renew_forms = record { needed = alone is_name ∷ is_output 1 2 ∷ []; optional = [] }
+
 -- the forms of the words after a command's name
 abbrev pub forms_of : List ℕ → Option Forms
 forms_of name =
@@ -154,6 +166,8 @@ forms_of name =
     else if bytes_eq name (codes "make") then Some make_forms
     else if bytes_eq name (codes "trial") then Some trial_forms
     else if bytes_eq name (codes "audit") then Some audit_forms
+    else if bytes_eq name (codes "twin") then Some twin_forms
+    else if bytes_eq name (codes "renew") then Some renew_forms
     else None
 
 -- the least place from `at` on whose word is out of form or one too many, where each may be missing

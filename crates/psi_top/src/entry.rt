@@ -7,9 +7,11 @@ ghost use Rattle.psi_top.specs.LocalPromises.{IsOfLocal, IsWired, LocalCompletes
 ghost use Rattle.psi_top.specs.Make.{MakeWrites};
 ghost use Rattle.psi_top.specs.Promises.{Completes, CountsBy, DoneLeaves, IsBadWords, IsDue, IsOfCommand, OnTold, RunsThrough, StandsAt};
 ghost use Rattle.psi_top.specs.ReceivePromises.{IsOfReceive, ReceiveFinds, ReceiveServes};
+ghost use Rattle.psi_top.specs.RenewPromises.{IsOfRenew, RenewCompletes, RenewWrites};
 ghost use Rattle.psi_top.specs.SendPromises.{IsOfSend, SendServes};
 ghost use Rattle.psi_top.specs.Tree.{ended};
 ghost use Rattle.psi_top.specs.TrialPromises.{IsOfTrial, TrialCompletes, TrialPrints};
+ghost use Rattle.psi_top.specs.TwinPromises.{IsOfTwin, TwinCompletes, TwinHides};
 
 use crate::audit::audit_command;
 use crate::deal::deal_command;
@@ -17,9 +19,11 @@ use crate::form::{Command, bad_word, named_command};
 use crate::local::local_command;
 use crate::make::make_command;
 use crate::receive::receive_command;
+use crate::renew::renew_command;
 use crate::send::send_command;
 use crate::status::{Outcome, Status};
 use crate::trial::trial_command;
+use crate::twin::twin_command;
 use psi_base::{Words, World};
 use std::alloc::Global;
 
@@ -38,6 +42,8 @@ fn answer<W: World>(alloc: Global, words: &Words, world: &mut W) -> Outcome
         Some(Command::Make) => make_command(alloc, words, world),
         Some(Command::Trial) => trial_command(alloc, words, world),
         Some(Command::Audit) => audit_command(alloc, words, world),
+        Some(Command::Twin) => twin_command(alloc, words, world),
+        Some(Command::Renew) => renew_command(alloc, words, world),
         None => Outcome::of(Status::BadWords { at: 0 }),
     }
 }
@@ -69,9 +75,10 @@ pub fn run<W: World>(alloc: Global, words: &Words, world: &mut W) -> Outcome
     // From valid files the run is done in such a world, or memory was wanting.
     ensures through { RunsThrough words.now (W.outside world.old) (ended result (W.outside world.new)) }
 
-    // Nothing is printed or written before all is read; then each effect is whole, in part or not begun, in order.
+    // Nothing is printed or written before all is read; then each effect is whole, in part or not begun, in order: all
+    // of them where the run is done, and those before the one that failed where one did.
     ensures stands { OnTold words.now (W.outside world.old) (ended result (W.outside world.new)).placed
-        (λ d contents. StandsAt words.now (W.outside world.old) result.status (W.outside world.new) (d contents)) }
+        (StandsAt words.now (W.outside world.old) result.status (W.outside world.new)) }
 
     // What a run that is done read and left, in every world.
     ensures done { DoneLeaves W.known words.now (W.outside world.old) (ended result (W.outside world.new)) }
@@ -140,6 +147,33 @@ pub fn run<W: World>(alloc: Global, words: &Words, world: &mut W) -> Outcome
     // From valid lists, a pair of deals and a record of their session, `audit` is done where no fault was counted or
     // the world is steady, or memory was wanting.
     ensures consistent { AuditCompletes words.now (W.outside world.old) (ended result (W.outside world.new)) }
+
+    // What `twin` may answer, in its own words: its files are judged in order, then the deals and the numbers of the
+    // items; the first list is placed, then the second, and then both files are written. It sends and takes nothing.
+    ensures twinned { IsOfTwin W.known words.now (W.outside world.old) (ended result (W.outside world.new)) }
+
+    // Where `twin` is done, the outcome's placements are those of both lists. It wrote the receiver's stream of the
+    // first over the dealt columns, and the changed columns, over which the second has that same stream. And over
+    // arbitrary columns, for these two placed sets: the change is its own inverse, keeps each column that the sender
+    // chose, and gives the same stream; so what a sender sees does not tell which of both sets the receiver has. With
+    // `shown` and `found`, what is printed, this is all that psi promises to both firms.
+    ensures hidden { TwinHides W.known words.now (W.outside world.old) (ended result (W.outside world.new)) }
+
+    // From valid lists of one number of items that both have a placement, and a pair of deals, `twin` is done where no
+    // fault was counted or the world is steady, or memory was wanting.
+    ensures changed { TwinCompletes words.now (W.outside world.old) (ended result (W.outside world.new)) }
+
+    // `renew` reads the file of version 1 of either end's deal, writes the file of version 2 of that deal for the same
+    // end, and changes nothing else.
+    ensures renewed { RenewWrites W.known words.now (W.outside world.old) (ended result (W.outside world.new)) }
+
+    // What `renew` may answer, in its own words: its first file is judged, and then the second is written. It sends and
+    // takes nothing.
+    ensures renew { IsOfRenew W.known words.now (W.outside world.old) (ended result (W.outside world.new)) }
+
+    // From a file of version 1, `renew` is done where no fault was counted or the world is steady, or memory was
+    // wanting.
+    ensures through_renew { RenewCompletes words.now (W.outside world.old) (ended result (W.outside world.new)) }
 {
     answer(alloc, words, world)
 }

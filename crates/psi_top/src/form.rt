@@ -23,6 +23,10 @@ pub enum Command {
     Trial,
     /// A recorded session, judged by the inputs of both ends.
     Audit,
+    /// What the receiver sends of one list, and the columns over which it sends the same of another.
+    Twin,
+    /// A deal file of version 1, made anew.
+    Renew,
 }
 
 /// The form that a word must have.
@@ -113,6 +117,23 @@ const AUDIT: CommandForms = CommandForms {
     optional: &[],
 };
 
+const TWIN: CommandForms = CommandForms {
+    needed: &[
+        Form::Name,
+        Form::Name,
+        Form::Name,
+        Form::Name,
+        Form::Output { from: 1, to: 5 },
+        Form::Output { from: 1, to: 6 },
+    ],
+    optional: &[],
+};
+
+const RENEW: CommandForms = CommandForms {
+    needed: &[Form::Name, Form::Output { from: 1, to: 2 }],
+    optional: &[],
+};
+
 impl Command {
     ghost use Rattle.psi_top.specs.Form.{forms_seen};
 
@@ -129,6 +150,8 @@ impl Command {
             Command::Make => MAKE,
             Command::Trial => TRIAL,
             Command::Audit => AUDIT,
+            Command::Twin => TWIN,
+            Command::Renew => RENEW,
         }
     }
 }
@@ -196,6 +219,10 @@ pub fn named_command(words: &Words) -> Option<Command>
         Some(Command::Trial)
     } else if name == "audit" {
         Some(Command::Audit)
+    } else if name == "twin" {
+        Some(Command::Twin)
+    } else if name == "renew" {
+        Some(Command::Renew)
     } else {
         None
     }

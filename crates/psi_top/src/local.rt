@@ -13,7 +13,7 @@ ghost use Rattle.psi_top.specs.Tree.{closed, end_of, ended, ends, says};
 ghost use Rattle.psi_top.specs.Walk.{Follows, MakesAll, Runs};
 
 use crate::form::{Command, word_at};
-use crate::placing::{item_digests, place_items};
+use crate::placing::place_items;
 use crate::playing::{PlayedSession, placed_outcome, play, session_length};
 use crate::showing::print_shown;
 use crate::status::{Outcome, Status, outcome_of};
@@ -87,7 +87,7 @@ fn place_and_play<W: World>(
         (end_of result (W.outside world.new)) }
 {
     let deals = local_deals(alloc, words)?;
-    let digests = item_digests(alloc, x)?;
+    let digests = x.digests(alloc)?;
     let placement = place_items(alloc, 1, x, &digests, &deals.0)?;
     let size = session_length(&deals.0, x.len(), y.len());
     let log = begin_record(alloc, words, &placement, size)?;

@@ -11,22 +11,9 @@ use crate::status::Status;
 use psi_base::{NoMemory, bins};
 use psi_cuckoo::{NoFit, Placement, place};
 use psi_deal::ReceiverDeal;
-use psi_items::{Items, digest};
+use psi_items::Items;
 use psi_oprf::candidates_of;
 use std::alloc::Global;
-
-/// The digests of the items, in their order.
-pub fn item_digests(alloc: Global, items: &Items) -> Result<Vec<[u8; 32]>, NoMemory>
-    ensures { IfOk result (λ digests. digests.items ≡ map item_digest items.now) }
-{
-    let mut digests = Vec::with_capacity(alloc, items.len() as usize)?;
-    let mut place = 0;
-    while let Some(item) = items.get(place) {
-        digests.push(digest(item))?;
-        place += 1;
-    }
-    Ok(digests)
-}
 
 // The candidates of the items with these digests.
 fn item_candidates(

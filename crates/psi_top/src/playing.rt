@@ -98,11 +98,13 @@ pub fn placed_outcome(placement: Placement, rest: Result<[u8; 32], Status>) -> O
         Ok(digest) => Outcome {
             status: Status::Done,
             placement,
+            second: None,
             wire: Some(digest),
         },
         Err(status) => Outcome {
             status,
             placement,
+            second: None,
             wire: None,
         },
     }

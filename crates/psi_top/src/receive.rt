@@ -15,7 +15,7 @@ ghost use Rattle.psi_top.specs.Tree.{end_of, ended, ends, places, puts, says, st
 ghost use Rattle.psi_top.specs.Walk.{Follows, Runs, StepsTalk, status_of};
 ghost use Rattle.psi_top.specs.declared.status.Status.TheVariants as status;
 
-use crate::placing::{item_digests, place_items};
+use crate::placing::place_items;
 use crate::showing::print_shown;
 use crate::status::{Outcome, Status, outcome_of};
 use crate::steps::{open_link, read_items, read_receiver_deal, session_status, status, write_word};
@@ -123,12 +123,13 @@ fn place_and_receive<W: World>(
         (places 2 (placing_of deal.now items.now) (λ slots. receive_rest items.now deal.now slots))
         (W.outside world.old) (end_of result (W.outside world.new)) }
 {
-    let digests = item_digests(alloc, items)?;
+    let digests = items.digests(alloc)?;
     let placement = place_items(alloc, 2, items, &digests, deal)?;
     let rest = receive_rest(alloc, words, items, &digests, deal, &placement, world);
     Ok(Outcome {
         status: status(rest),
         placement: Some(placement),
+        second: None,
         wire: None,
     })
 }

@@ -27,7 +27,8 @@ pub enum Status {
         word: u8,
         fault: BadItems,
     },
-    /// The file that this word names is no deal file of the end that reads it. The fault is never want of memory.
+    /// The file that this word names is no deal file of the end that reads it, or in `renew` of version 1. The fault is
+    /// never want of memory.
     BadDeal {
         word: u8,
         fault: BadDeal,
@@ -72,6 +73,11 @@ pub enum Status {
     },
     /// The two deals are no pair, and this is the first field in which they differ.
     DealsDiffer(DealField),
+    /// The two lists of `twin` have different numbers of items.
+    SizesDiffer {
+        first: u32,
+        second: u32,
+    },
     /// Memory was wanting.
     NoMemory,
 }
@@ -81,9 +87,13 @@ pub enum Status {
 pub struct Outcome {
     /// How it ended.
     pub status: Status,
-    /// The placement of the receiver's set, where the command placed it: None in any other command, and where the set
-    /// was not placed.
+    /// The placement of the receiver's set, which is the first set of `twin`, where the command placed it: None in any
+    /// other command, and where the set was not placed. `twin` keeps it where its second set has no placement. Where
+    /// memory was wanting it may be None though the set was placed.
     pub placement: Option<Placement>,
+    /// The placement of the second set of `twin`, where it was placed: None in every other command. It is Some only
+    /// beside a placement of the first.
+    pub second: Option<Placement>,
     /// The SHA-256 of all bytes that both ends of a session exchanged, in the order of the wire: only where `local`
     /// or `trial` is done.
     pub wire: Option<[u8; 32]>,
@@ -92,11 +102,12 @@ pub struct Outcome {
 impl Outcome {
     /// How a command ended that placed no set and ran no session of both ends.
     pub fn of(status: Status) -> Outcome
-        ensures { result ≡ record { status = status; placement = None; wire = None } }
+        ensures { result ≡ record { status = status; placement = None; second = None; wire = None } }
     {
         Outcome {
             status,
             placement: None,
+            second: None,
             wire: None,
         }
     }
@@ -147,6 +158,7 @@ pub fn status_number(status: &Status) -> u8
         Status::PrintFault => 12,
         Status::TooLong { .. } => 13,
         Status::DealsDiffer(_) => 14,
+        Status::SizesDiffer { .. } => 15,
         Status::NoMemory => 70,
     }
 }

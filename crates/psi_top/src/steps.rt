@@ -4,14 +4,14 @@ ghost use Rattle.psi_spec.specs.Deals.{IsReceiverDeal, IsSenderDeal};
 ghost use Rattle.psi_spec.specs.Frames.{AreBytes};
 ghost use Rattle.psi_spec.specs.Limits.{file_limit, record_limit};
 ghost use Rattle.psi_base.specs.Outside.{as_list};
-ghost use Rattle.psi_top.specs.Files.{items_in, record_in, reads_items, reads_receiver, reads_sender, receiver_in, sender_in};
+ghost use Rattle.psi_top.specs.Files.{items_in, record_in, reads_items, reads_receiver, reads_sender, receiver_in, sender_in, old_deal_in, reads_old};
 ghost use Rattle.psi_top.specs.Tree.{puts, says};
 ghost use Rattle.psi_top.specs.Walk.{Makes, Settles, Steps, StepsOpen, StepsRead, status_of, talk_status};
 
 use crate::form::word_at;
 use crate::status::Status;
 use psi_base::{FILE_LIMIT, Fault, ReadFault, Side, Words, World, print_all};
-use psi_deal::{BadDeal, ReceiverDeal, SenderDeal, read_receiver, read_sender};
+use psi_deal::{BadDeal, OldDeal, ReceiverDeal, SenderDeal, read_old, read_receiver, read_sender};
 use psi_frames::EndFault;
 use psi_items::{BadItems, Items};
 use psi_log::{BadRecord, LoggedSession, read_record};
@@ -203,5 +203,34 @@ pub fn status(rest: Result<(), Status>) -> Status
     match rest {
         Ok(()) => Status::Done,
         Err(status) => status,
+    }
+}
+
+// The deal of the file of version 1 of a word.
+#[tactic(auto, unfolding(crate::specs::Files::old_deal_in))]
+fn judge_old(alloc: Global, word: u8, bytes: &[u8]) -> Result<OldDeal, Status>
+    requires { length bytes.now ≤ file_limit }
+    ensures settles { Settles (old_deal_in word bytes.now) result }
+    ensures are_bytes { AreBytes bytes.now }
+{
+    match read_old(alloc, bytes) {
+        Ok(deal) => Ok(deal),
+        Err(BadDeal::NoMemory) => Err(Status::NoMemory),
+        Err(fault) => Err(Status::BadDeal { word, fault }),
+    }
+}
+
+/// Reads the deal file of version 1 that the word at this place names.
+pub fn read_old_deal<W: World>(
+    alloc: Global,
+    words: &Words,
+    word: u8,
+    world: &mut W,
+) -> Result<OldDeal, Status>
+    ensures { Steps W.known words.now (reads_old word) (W.outside world.old) result (W.outside world.new) }
+{
+    match read_bytes(alloc, words, word, FILE_LIMIT, world) {
+        Ok(bytes) => judge_old(alloc, word, &bytes),
+        Err(status) => Err(status),
     }
 }

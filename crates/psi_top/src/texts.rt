@@ -1,6 +1,6 @@
 // The lines that name faults.
 ghost use Rattle.std.specs.Prelude.{◌≡◌, ◌+◌, ◌≤◌, ◌++◌, length, take, decimal, codes};
-ghost use Rattle.psi_top.specs.Texts.{crowded_text, deal_text, difference_text, fault_text, field_text, frame_text, items_text, line_front, record_text, too_long_text, word_front};
+ghost use Rattle.psi_top.specs.Texts.{crowded_text, deal_text, difference_text, fault_text, field_text, frame_text, items_text, line_front, record_text, sizes_text, too_long_text, word_front};
 
 use crate::status::Status;
 use arrayvec::ArrayString;
@@ -213,6 +213,17 @@ impl Line {
         }
     }
 
+    // A line about two lists that have different numbers of items.
+    fn about_sizes(first: u32, second: u32) -> Line
+        ensures { result.text.bytes ≡ sizes_text first second }
+    {
+        Line::begin("psi: sizes differ: ")
+            .with_number(u64::from(first))
+            .with(" and ")
+            .with_number(u64::from(second))
+            .with("\n")
+    }
+
     // A line of a number between two texts.
     fn about_number(front: &str, number: u64, end: &str) -> Line
         requires { length front.now + 20 + length end.now ≤ 120 }
@@ -254,6 +265,7 @@ impl Line {
             Status::PrintFault => Line::begin("psi: print fault\n"),
             Status::TooLong { word, taken } => Line::about_length(*word, *taken),
             Status::DealsDiffer(field) => Line::about_field(*field),
+            Status::SizesDiffer { first, second } => Line::about_sizes(*first, *second),
             Status::NoMemory => Line::begin("psi: no memory\n"),
         }
     }

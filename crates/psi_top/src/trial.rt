@@ -13,7 +13,7 @@ ghost use Rattle.psi_top.specs.Trial.{measured, numbered, summary_text, trial_re
 ghost use Rattle.psi_top.specs.Walk.{Runs};
 
 use crate::form::{Command, word_at};
-use crate::placing::{item_digests, place_items};
+use crate::placing::place_items;
 use crate::playing::{PlayedSession, placed_outcome, play, receiver_length, sender_length};
 use crate::status::{Outcome, Status, outcome_of};
 use crate::steps::print_text;
@@ -146,7 +146,7 @@ fn place_and_try<W: World>(
 {
     let (own, peer) = (x.len(), y.len());
     let deals = trial_deals(alloc, words)?;
-    let digests = item_digests(alloc, x)?;
+    let digests = x.digests(alloc)?;
     let placement = place_items(alloc, 0, x, &digests, &deals.0)?;
     let played = play(alloc, x, y, &digests, &deals, &placement, None)?;
     let summary = summary_of(&deals.0, own, peer, played.receiver.shown());

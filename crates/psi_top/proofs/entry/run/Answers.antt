@@ -6,8 +6,10 @@ use Rattle.psi_top.proofs.HonestLaws.{answers_found}
 use Rattle.psi_top.proofs.LocalLaws.{answers_completed, answers_local, answers_shown}
 use Rattle.psi_top.proofs.MakeLaws.{answers_made}
 use Rattle.psi_top.proofs.ReceiveLaws.{answers_receive, answers_received}
+use Rattle.psi_top.proofs.RenewLaws.{answers_renew, answers_renewed, answers_through_renew}
 use Rattle.psi_top.proofs.SendLaws.{answers_send, answers_serve}
 use Rattle.psi_top.proofs.TrialLaws.{answers_through_trial, answers_trial, answers_tried}
+use Rattle.psi_top.proofs.TwinLaws.{answers_changed, answers_hidden, answers_twin}
 use Rattle.psi_top.proofs.Wired.{answers_wired}
 use Rattle.psi_top.proofs.entry.run.Goals as goal
 
@@ -106,3 +108,27 @@ returns-clause-audited g c =
 pub returns-clause-consistent : goal.returns-clause-consistent
 returns-clause-consistent g c =
     answers_audited g.W.World.known c.args.words.now (g.W.World.outside c.args.world.now) (ended c.answer.result (g.W.World.outside c.answer.new.world)) c.answer.ensures
+
+pub returns-clause-twinned : goal.returns-clause-twinned
+returns-clause-twinned g c =
+    answers_twin g.W.World.known c.args.words.now (g.W.World.outside c.args.world.now) (ended c.answer.result (g.W.World.outside c.answer.new.world)) c.answer.ensures
+
+pub returns-clause-hidden : goal.returns-clause-hidden
+returns-clause-hidden g c =
+    answers_hidden g.W.World.known c.args.words.now (g.W.World.outside c.args.world.now) (ended c.answer.result (g.W.World.outside c.answer.new.world)) c.answer.ensures
+
+pub returns-clause-changed : goal.returns-clause-changed
+returns-clause-changed g c =
+    answers_changed g.W.World.known c.args.words.now (g.W.World.outside c.args.world.now) (ended c.answer.result (g.W.World.outside c.answer.new.world)) c.answer.ensures
+
+pub returns-clause-renewed : goal.returns-clause-renewed
+returns-clause-renewed g c =
+    answers_renewed g.W.World.known c.args.words.now (g.W.World.outside c.args.world.now) (ended c.answer.result (g.W.World.outside c.answer.new.world)) c.answer.ensures
+
+pub returns-clause-renew : goal.returns-clause-renew
+returns-clause-renew g c =
+    answers_renew g.W.World.known c.args.words.now (g.W.World.outside c.args.world.now) (ended c.answer.result (g.W.World.outside c.answer.new.world)) c.answer.ensures
+
+pub returns-clause-through_renew : goal.returns-clause-through_renew
+returns-clause-through_renew g c =
+    answers_through_renew g.W.World.known c.args.words.now (g.W.World.outside c.args.world.now) (ended c.answer.result (g.W.World.outside c.answer.new.world)) c.answer.ensures

@@ -1,7 +1,11 @@
 use Rattle.std.proofs.Common.{◌∙◌, ap}
-use Rattle.psi_top.specs.Words.{are_sizes, is_session}
+use Rattle.psi_top.specs.Words.{are_sizes, is_seed, is_session}
 use Rattle.psi_top.proofs.LocalWords.{local_words}
 use Rattle.psi_top.proofs.local.local_deals.Goals as goal
+
+pub seed_of-seed-requires : goal.seed_of-seed-requires
+seed_of-seed-requires c =
+    ap is_seed c.word_at.ensures ∙ (local_words c.args.words.now c.requires.fit c.requires.named).seed
 
 pub session_of-session-requires : goal.session_of-session-requires
 session_of-session-requires c =

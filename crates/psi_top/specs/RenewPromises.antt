@@ -1,0 +1,66 @@
+-- What callers read of `renew`, in its own words.
+use Rattle.std.specs.Prelude.{◌≡◌, ◌<◌, ◌⊎◌, ℕ, List, [], Some, None}
+use Rattle.psi_spec.specs.Limits.{file_limit}
+use Rattle.psi_base.specs.Outside.{Known, Outside, Files, written}
+use Rattle.psi_deal.specs.OldDeals.{IsOldFile, renewed}
+use Rattle.psi_deal.specs.declared.old_files.OldDeal.{OldDeal}
+use Rattle.psi_top.specs.Form.{command_of}
+use Rattle.psi_top.specs.JudgedFiles.{HasBadOldDeal, HasOldDeal}
+use Rattle.psi_top.specs.Promises.{IsCalm, IsSilent}
+use Rattle.psi_top.specs.Tree.{End}
+use Rattle.psi_top.specs.Words.{bad_word, word_at}
+use Rattle.psi_top.specs.declared.form.Command.TheVariants.{Renew}
+use Rattle.psi_top.specs.declared.status.Status.{Status}
+use Rattle.psi_top.specs.declared.status.Status.TheVariants.{Done, BadDeal, FileFault, TooLong, NoMemory}
+
+-- ---- what it leaves
+
+-- the first file was read and is the file of version 1 of a deal; the file of version 2 of that deal, for the same end,
+-- was written as the second, and nothing else changed
+pub record WroteRenewed (known : Known) (words : List (List ℕ)) (before after : Outside) : Type 0 where
+  pub deal : OldDeal
+  pub old : HasOldDeal known words before 1 deal
+  pub left : after ≡ written before (word_at words 2) (renewed deal)
+
+-- the same where `renew` is done
+abbrev pub RenewWrites : Known → List (List ℕ) → Outside → End → Type 0
+RenewWrites known words before end =
+    command_of words ≡ Some Renew → end.status ≡ Done → WroteRenewed known words before end.left
+
+-- ---- what it may answer
+
+-- the first file was read and is the file of version 1 of a deal
+abbrev pub AfterOldDeal : Known → List (List ℕ) → Outside → Type 0
+AfterOldDeal known words before = (deal : OldDeal) × HasOldDeal known words before 1 deal
+
+-- what `renew` may answer, and why, in every world: the first file is judged, and then the second one is written
+abbrev pub RenewAnswers : Known → List (List ℕ) → Outside → Status → Outside → Type 0
+RenewAnswers known words before Done after = WroteRenewed known words before after
+RenewAnswers known words before (BadDeal place fault) after = (place ≡ 1) × HasBadOldDeal known words before 1 fault
+RenewAnswers known words before (FileFault place) after =
+    (place ≡ 1) ⊎ ((place ≡ 2) × AfterOldDeal known words before)
+RenewAnswers known words before (TooLong place taken) after = (place ≡ 1) × (file_limit < taken)
+RenewAnswers known words before NoMemory after = Unit {0}
+RenewAnswers known words before _ after = ⊥
+
+-- the same of a run, which sends and takes nothing and places no set
+abbrev pub IsOfRenew : Known → List (List ℕ) → Outside → End → Type 0
+IsOfRenew known words before end =
+    bad_word words ≡ None → command_of words ≡ Some Renew
+    → RenewAnswers known words before end.status end.left × IsSilent before end.left × (end.placed ≡ [])
+
+-- ---- completeness
+
+-- the first file is there, and is the file of version 1 of a deal
+pub record CanRenew (words : List (List ℕ)) (files : Files) : Type 0 where
+  pub deal : OldDeal
+  pub bytes : List ℕ
+  pub there : files (word_at words 1) ≡ Some bytes
+  pub old : IsOldFile deal bytes
+
+-- then `renew` is done in a calm world, or memory was wanting
+abbrev pub RenewCompletes : List (List ℕ) → Outside → End → Type 0
+RenewCompletes words before end =
+    (files : Files) (incoming : List ℕ) → before.files ≡ Some files → before.incoming ≡ Some incoming
+    → bad_word words ≡ None → command_of words ≡ Some Renew → CanRenew words files
+    → IsCalm before end.left → (end.status ≡ Done) ⊎ (end.status ≡ NoMemory)
