@@ -1,9 +1,9 @@
-// The deal files that `deal` writes, its words, and what stands where a write fails.
+// The deal files that `deal` writes, and its words.
 ghost use Rattle.std.specs.Prelude.{◌≤◌, length};
 ghost use Rattle.psi_spec.specs.Limits.{file_limit};
 
 use crate::runs::{DONE, ZERO_SEED as Z, expect_run, words_of};
-use psi_base::{FILE_LIMIT, FaultKind, MemWorld, QuietMem};
+use psi_base::{FILE_LIMIT, MemWorld, QuietMem};
 use psi_deal::{deals_differ, read_receiver, read_sender, write_receiver, write_sender};
 use psi_top::{Status, run};
 use std::process::Abort;
@@ -140,26 +140,6 @@ fn bad_words_write_nothing(rt: HostRuntime) -> Result<(), Fail> {
         expect_run(&rt, texts, &mut world, line, b"", name)?;
         assert_eq!(rt; world.file("r"), None, "at {name}");
         assert_eq!(rt; world.file("s"), None, "at {name}");
-    }
-    Ok(())
-}
-
-/// The call that fails, the line of the refusal, and how many bytes the two files have then.
-const FAILED: &[(u64, &str, usize, usize)] = &[
-    (0, "psi: word 4: file fault\n", 3, 3),
-    (1, "psi: word 5: file fault\n", 32_848, 3),
-];
-
-#[test]
-fn failed_writes_leave_the_other_file(rt: HostRuntime) -> Result<(), Fail> {
-    for &(nth, line, receiver, sender) in FAILED {
-        let mut world = MemWorld::new(rt.alloc());
-        world.put_file("r", b"old")?;
-        world.put_file("s", b"old")?;
-        world.fail(FaultKind::File, nth)?;
-        expect_run(&rt, DEAL, &mut world, line, b"", line)?;
-        assert_eq!(rt; content(&world, "r").len(), receiver, "at {line}");
-        assert_eq!(rt; content(&world, "s").len(), sender, "at {line}");
     }
     Ok(())
 }

@@ -62,6 +62,11 @@ fn files_and_words_have_lines(rt: HostRuntime) {
         13,
         "psi: word 1: too long after 33554433 bytes\n",
     );
+    let sizes = Status::SizesDiffer {
+        first: 1,
+        second: 1_048_576,
+    };
+    expect_line(&rt, &sizes, 15, "psi: sizes differ: 1 and 1048576\n");
     expect_line(&rt, &Status::NoMemory, 70, "psi: no memory\n");
 }
 

@@ -19,6 +19,10 @@ mod printing;
 #[cfg(test)]
 mod refusals;
 #[cfg(test)]
+mod renewing;
+#[cfg(test)]
 mod runs;
+#[cfg(test)]
+mod twins;
 #[cfg(test)]
 mod words;

@@ -1,6 +1,6 @@
-// Made files and trials over them: what they hold and print, their words, and a print that fails.
+// Made files and trials over them: what they hold and print, and their words.
 use crate::runs::{DONE, ZERO_SEED as Z, expect_run};
-use psi_base::{FaultKind, MemWorld};
+use psi_base::MemWorld;
 use std::test::Fail;
 
 /// The words of two files of three items each, of which one is in both.
@@ -18,23 +18,6 @@ fn made_files_have_their_lines(rt: HostRuntime) -> Result<(), Fail> {
     expect_run(&rt, MAKE, &mut world, DONE, b"", "make")?;
     assert_eq!(rt; world.file("x").unwrap_or(&[]), FIRST);
     assert_eq!(rt; world.file("y").unwrap_or(&[]), SECOND);
-    Ok(())
-}
-
-#[test]
-fn second_made_file_is_not_written(rt: HostRuntime) -> Result<(), Fail> {
-    let mut world = MemWorld::new(rt.alloc());
-    world.fail(FaultKind::File, 1)?;
-    expect_run(
-        &rt,
-        MAKE,
-        &mut world,
-        "psi: word 5: file fault\n",
-        b"",
-        "second file",
-    )?;
-    assert_eq!(rt; world.file("x").unwrap_or(&[]), FIRST);
-    assert_eq!(rt; world.file("y"), None);
     Ok(())
 }
 
@@ -70,21 +53,6 @@ fn trials_print_their_sizes(rt: HostRuntime) -> Result<(), Fail> {
             count,
         )?;
     }
-    Ok(())
-}
-
-#[test]
-fn print_of_a_trial_fails(rt: HostRuntime) -> Result<(), Fail> {
-    let mut world = MemWorld::new(rt.alloc());
-    world.fail(FaultKind::Print, 0)?;
-    expect_run(
-        &rt,
-        &["trial", "3", "1", Z],
-        &mut world,
-        "psi: print fault\n",
-        b"",
-        "print",
-    )?;
     Ok(())
 }
 

@@ -1,4 +1,5 @@
-//! Worked examples: both ends of a session over a link in memory, with what they answer, send and print.
+//! Worked examples: both ends of a session over a link in memory, with what they answer, send and print, and every
+//! command where each call of the outside fails in turn.
 #![tactic(auto)]
 
 #[cfg(test)]
@@ -7,3 +8,5 @@ mod receiving;
 mod runs;
 #[cfg(test)]
 mod sending;
+#[cfg(test)]
+mod walks;

@@ -1,6 +1,6 @@
 // The receiver's end over a link in memory: what it sends, prints and records for a sender's stream, and each refusal.
 use crate::runs::{DONE, ZERO_SEED as Z, expect_run, words_of};
-use psi_base::{FaultKind, MemWorld, NoMemory};
+use psi_base::{MemWorld, NoMemory};
 use psi_frames::{BadFrame, Reason};
 use psi_top::{Status, run};
 use std::process::Abort;
@@ -37,8 +37,8 @@ fn hello(kind: u8, count: u32) -> [u8; 34] {
     bytes
 }
 
-// A world with both lists, both deal files of these sizes, and what a peer sends.
-fn world_of(
+/// A world with both lists, both deal files of these sizes, and what a peer sends.
+pub fn world_of(
     rt: &(impl Abort + AllocGlobal),
     sizes: &str,
     lists: [&[u8]; 2],
@@ -59,9 +59,9 @@ fn world_of(
     Ok(world)
 }
 
-// The stream of a receiver with these lists' first against a sender of so many items: the columns come once the
-// sender's hello was taken, and the last frame stands behind them.
-fn receiver_stream(
+/// The stream of a receiver with these lists' first against a sender of so many items: the columns come once the
+/// sender's hello was taken, and the last frame stands behind them.
+pub fn receiver_stream(
     rt: &(impl Abort + AllocGlobal),
     sizes: &str,
     lists: [&[u8]; 2],
@@ -77,8 +77,8 @@ fn receiver_stream(
     Ok(bytes)
 }
 
-// The stream of the sender of these lists' second, of so many items, for the receiver of the first.
-fn sender_stream(
+/// The stream of the sender of these lists' second, of so many items, for the receiver of the first.
+pub fn sender_stream(
     rt: &(impl Abort + AllocGlobal),
     sizes: &str,
     lists: [&[u8]; 2],
@@ -451,45 +451,6 @@ fn bad_words_send_nothing(rt: HostRuntime) -> Result<(), Fail> {
         let mut world = world_of(&rt, "16", [X, Y], &hello(2, 3))?;
         expect_run(&rt, texts, &mut world, line, b"", name)?;
         assert_eq!(rt; world.outgoing().len(), 0, "at {name}");
-    }
-    Ok(())
-}
-
-/// The number of a call that fails, of its kind, the line of the refusal, what is printed, and whether a record is
-/// there. The files are read and written in the calls behind the two that `deal` made.
-const FAILED: &[(FaultKind, u64, &str, &[u8])] = &[
-    (FaultKind::File, 2, "psi: word 2: file fault\n", b""),
-    (FaultKind::File, 3, "psi: word 3: file fault\n", b""),
-    (FaultKind::File, 4, "psi: word 4: file fault\n", b"b\nc\n"),
-    (FaultKind::Print, 0, "psi: print fault\n", b""),
-    (FaultKind::Print, 1, "psi: print fault\n", b"b"),
-    (FaultKind::Print, 2, "psi: print fault\n", b"b\n"),
-    (FaultKind::Print, 3, "psi: print fault\n", b"b\nc"),
-];
-
-#[test]
-fn a_failed_call_ends_the_run(rt: HostRuntime) -> Result<(), Fail> {
-    let incoming = sender_stream(&rt, "16", [X, Y], 3)?;
-    for &(kind, nth, line, printed) in FAILED {
-        let mut world = world_of(&rt, "16", [X, Y], &incoming)?;
-        world.fail(kind, nth)?;
-        expect_run(&rt, RECEIVE, &mut world, line, printed, line)?;
-        assert_eq!(rt; world.file("record"), None, "at {line}");
-    }
-    Ok(())
-}
-
-#[test]
-fn a_failed_link_sends_a_front(rt: HostRuntime) -> Result<(), Fail> {
-    let incoming = sender_stream(&rt, "16", [X, Y], 3)?;
-    let mut whole = world_of(&rt, "16", [X, Y], &incoming)?;
-    expect_run(&rt, RECEIVE, &mut whole, DONE, b"b\nc\n", "whole")?;
-    for nth in [0, 1, 2, 3, 100, 514, 515, 516, 521, 522] {
-        let mut world = world_of(&rt, "16", [X, Y], &incoming)?;
-        world.fail(FaultKind::Link, nth)?;
-        expect_run(&rt, RECEIVE, &mut world, "psi: link fault\n", b"", "failed")?;
-        assert!(rt; whole.outgoing().starts_with(world.outgoing()), "at {nth}");
-        assert_eq!(rt; world.file("record"), None, "at {nth}");
     }
     Ok(())
 }

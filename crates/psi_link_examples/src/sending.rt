@@ -3,7 +3,7 @@ ghost use Rattle.std.specs.Prelude.{◌≤◌, length};
 ghost use Rattle.psi_spec.specs.Limits.{file_limit};
 
 use crate::runs::{DONE, ZERO_SEED as Z, expect_run, words_of};
-use psi_base::{FILE_LIMIT, FaultKind, MemWorld, NoMemory};
+use psi_base::{FILE_LIMIT, MemWorld, NoMemory};
 use psi_frames::{BadFrame, Reason};
 use psi_top::{Status, run};
 use std::alloc::{AllocError, Global};
@@ -421,28 +421,6 @@ fn bad_words_send_nothing(rt: HostRuntime) -> Result<(), Fail> {
         let mut world = MemWorld::new(rt.alloc());
         expect_run(&rt, texts, &mut world, line, b"", name)?;
         assert_eq!(rt; world.outgoing().len(), 0, "at {name}");
-    }
-    Ok(())
-}
-
-#[test]
-fn a_failed_link_sends_a_front(rt: HostRuntime) -> Result<(), Fail> {
-    let deal = sender_file(&rt, "16")?;
-    let stream = stream_of(rt.alloc(), 3, 1)?;
-    let mut whole = world_of(rt.alloc(), LIST, &deal, &stream)?;
-    expect_run(&rt, SEND, &mut whole, DONE, b"", "whole")?;
-    for nth in [0, 1, 2, 3, 100, 514, 515, 516, 517, 518, 519, 520, 521] {
-        let mut world = world_of(rt.alloc(), LIST, &deal, &stream)?;
-        world.fail(FaultKind::Link, nth)?;
-        expect_run(
-            &rt,
-            SEND,
-            &mut world,
-            "psi: link fault\n",
-            b"",
-            "a failed call",
-        )?;
-        assert!(rt; whole.outgoing().starts_with(world.outgoing()), "at {nth}");
     }
     Ok(())
 }
