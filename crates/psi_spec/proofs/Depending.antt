@@ -1,11 +1,11 @@
 -- Of its deals a session depends on what both hold, the stash, the choice word and the columns alone.
-use Rattle.std.proofs.Common.{◌≡◌, ◌+◌, ◌∙◌, ℕ, List, length, sym, ap, subst}
+use Rattle.std.proofs.Common.{◌≡◌, ◌∙◌, ℕ, List, length, ap}
 use Rattle.psi_spec.specs.Limits.{bins_for, rows_for}
-use Rattle.psi_spec.specs.ColumnSets.{ColumnSets, masked_columns}
+use Rattle.psi_spec.specs.ColumnSets.{masked_columns}
 use Rattle.psi_spec.specs.Deals.{ReceiverDeal, SenderDeal, zero_columns, one_columns, sender_columns}
 use Rattle.psi_spec.specs.Meeting.{Placed}
-use Rattle.psi_spec.specs.TagLists.{SenderSide, opened_row, tag_lists}
-use Rattle.psi_spec.specs.Streams.{row_words, words_of, columns_stream, receiver_stream, dealt_sets, lists_stream, side_of_rows, sender_side, sender_stream}
+use Rattle.psi_spec.specs.TagLists.{opened_row, tag_lists}
+use Rattle.psi_spec.specs.Streams.{row_words, columns_stream, receiver_stream, dealt_sets, lists_stream, sender_side, sender_stream}
 use Rattle.psi_spec.specs.Sessions.{weave, dealt_masked, session_bytes}
 use Rattle.psi_spec.specs.SessionLaws.{SendAlike, AnswerAlike, SessionsDependOnColumns}
 

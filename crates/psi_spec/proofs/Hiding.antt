@@ -13,7 +13,7 @@ use Rattle.psi_spec.specs.ColumnSets.{ColumnSets, AreColumnSets, masked_from, ma
 use Rattle.psi_spec.specs.Changes.{difference, changed_from, change}
 use Rattle.psi_spec.specs.Deals.{ReceiverDeal}
 use Rattle.psi_spec.specs.Meeting.{Placed, row_word}
-use Rattle.psi_spec.specs.Streams.{row_words, words_of, receiver_stream, sender_stream}
+use Rattle.psi_spec.specs.Streams.{words_of, receiver_stream, sender_stream}
 use Rattle.psi_spec.specs.HidingLaws.{ChangesBits, bit_in, differing_bit, HasOneSource, Hides, SetsAreHidden, StreamsAreOver, sender_stream_over}
 use Rattle.psi_spec.proofs.Xor.{length-xor, xor-assoc, xor-comm, xor-twice, bit_of-xor}
 use Rattle.psi_spec.proofs.Packing.{AreBytes-row_of, bit_of-row_of}

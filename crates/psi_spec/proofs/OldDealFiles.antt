@@ -1,5 +1,5 @@
 -- Deal files of version 1 spell their deals, and what they spell is their file.
-use Rattle.std.proofs.Common.{◌≡◌, ◌+◌, ◌^◌, ◌<◌, ◌≤◌, ◌∙◌, ℕ, true, List, [], ◌∷◌, ◌++◌, length, take, drop, get_or, codes, refl, sym, ap, subst, arith, append_assoc, length-append}
+use Rattle.std.proofs.Common.{◌≡◌, ◌^◌, ◌<◌, ◌≤◌, ◌∙◌, ℕ, true, List, [], ◌∷◌, ◌++◌, length, take, drop, get_or, codes, refl, sym, ap, subst, arith, append_assoc, length-append}
 use Rattle.std.specs.Int.{w64, to_be_bytes, from_be_bytes}
 use Rattle.std.proofs.lemmas.List.{length-drop, length-take-le, drop-drop, get_or-drop}
 use lib.Seq.{take-add}
@@ -10,7 +10,7 @@ use Rattle.sha2.proofs.Facts256.{length-sha256}
 use Rattle.psi_spec.specs.Limits.{usual_stash}
 use Rattle.psi_spec.specs.Deals.{ReceiverDeal, SenderDeal, HasSeeds, IsReceiverDeal, IsSenderDeal, fits_tag_length, seed_pairs}
 use Rattle.psi_spec.specs.DealFiles.{pairs_bytes, seeds_bytes, sealed, seeds_of}
-use Rattle.psi_spec.specs.OldDealFiles.{old_front, old_receiver_bytes, old_sender_bytes, IsOldReceiverFile, IsOldSenderFile, old_receiver_of, old_sender_of}
+use Rattle.psi_spec.specs.OldDealFiles.{old_front, old_receiver_bytes, old_sender_bytes, old_receiver_of, old_sender_of}
 use Rattle.psi_spec.specs.Laws.{OldReceiverFilesReadBack, OldSenderFilesReadBack}
 use Rattle.psi_spec.proofs.Packing.{AreBytes}
 use Rattle.psi_spec.proofs.Dealing.{length-seed_pairs, seed_pairs_have_seeds}

@@ -1,5 +1,5 @@
 -- Which items are shown, by their places, and which of them are no item of the sender.
-use Rattle.std.specs.Prelude.{◌+◌, ◌&&◌, ℕ, Bool, not, true, false, List, [], ◌∷◌, ◌++◌, map, position, Option, Some, None, if◌then◌else◌}
+use Rattle.std.specs.Prelude.{◌+◌, ℕ, Bool, true, false, List, [], ◌∷◌, ◌++◌, map, position, Option, Some, None, if◌then◌else◌}
 use Rattle.std.specs.List.{list_any}
 use Rattle.std.specs.Str.{bytes_eq}
 use Rattle.psi_spec.specs.Meeting.{Placed, Setup, is_shown, meets}

@@ -1,5 +1,5 @@
 -- Item files that are made by rule, to try psi on.
-use Rattle.std.specs.Prelude.{ℕ, Bool, List, [], ◌∷◌, ◌++◌, decimal, nat_lt, reverse, codes, if◌then◌else◌}
+use Rattle.std.specs.Prelude.{ℕ, Bool, List, ◌++◌, decimal, nat_lt, reverse, codes, if◌then◌else◌}
 use Rattle.std.specs.List.{flat_map, range_with_len}
 
 -- the letter that a line begins with: `s` where both files have it, else `x` in the first file and `y` in the second
