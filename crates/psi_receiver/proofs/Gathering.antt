@@ -1,7 +1,9 @@
 -- Lists that are gathered a part at a time.
 use Rattle.std.proofs.Common.{◌≡◌, ◌+◌, ◌-◌, ◌<◌, ◌≤◌, ℕ, zero, suc, Bool, true, false, cond, List, [], ◌∷◌, ◌++◌, length, map, filter, min, take, drop, set, get_or, slice_get, Some, None, IsSome, All, rules, refl, sym, ap, ap₂, subst, ◌∙◌, arith, length-append}
 use Rattle.std.specs.Simd.Lanes.{zip2}
-use Rattle.std.proofs.lemmas.List.{length-take-le, take_more, take_more_set, take_min, take-take, drop-take, take-append-drop, length-drop, get_or-drop, map-append, append-nil}
+use Rattle.std.specs.List.{range_with_len}
+use Rattle.std.proofs.lemmas.List.{length-take-le, take_more, take_more_set, take_min, take-take, drop-take, take-append-drop, length-drop, get_or-drop, get_or-map, map-append, append-nil}
+use Rattle.std.proofs.lemmas.List.FromFn.{filter_of_map_range_with_len_more}
 use Rattle.std.proofs.lemmas.Option.{get_or_from_slice_get, slice_get-get_or}
 use Rattle.std.proofs.lemmas.Slice.{take-put_mid}
 use borrow.Rule.Slice.PartMut.{put_mid}
@@ -13,7 +15,7 @@ use Rattle.psi_cuckoo.specs.declared.slot.Slot.{Slot as RowSlot}
 use Rattle.psi_spec.specs.Deals.{ReceiverDeal}
 use Rattle.psi_spec.specs.Formulas.{padded_tag}
 use Rattle.psi_spec.specs.Placement.{Slot}
-use Rattle.psi_receiver.specs.Slots.{AreWithin, tag_of_word, tags_where}
+use Rattle.psi_receiver.specs.Slots.{AreWithin, tag_of_word}
 
 -- ---- parts
 
@@ -102,50 +104,30 @@ pub tags_of_slots : (deal : ReceiverDeal) (rows : List (List ℕ)) (slots : List
 tags_of_slots deal rows [] = refl
 tags_of_slots deal rows (slot ∷ slots) = ap (λ (tags : List (List ℕ)). tag_of_word deal rows slot ∷ tags) (tags_of_slots deal rows slots)
 
-module _ (test : Slot → Bool) where
-  -- of the tags of slots those whose slot passes
-  pub tags_where-map : (f : Slot → List ℕ) (slots : List Slot) → tags_where test slots (map f slots) ≡ map f (filter test slots)
-  tags_where-map f [] = refl
-  tags_where-map f (slot ∷ slots) = by_case (test slot) (tags_where-map f slots)
-    where
-      by_case : (b : Bool) → tags_where test slots (map f slots) ≡ map f (filter test slots)
-          → cond b (f slot ∷ tags_where test slots (map f slots)) (tags_where test slots (map f slots)) ≡ map f (cond b (slot ∷ filter test slots) (filter test slots))
-      by_case true later = ap (λ (tags : List (List ℕ)). f slot ∷ tags) later
-      by_case false later = later
+module _ (test : Slot → Bool) (slots : List Slot) (tags : List (List ℕ)) where
+  -- of the first tags by item, so many, those whose slot passes
+  abbrev pub tags_before : ℕ → List (List ℕ × ℕ)
+  tags_before n = filter (λ t. get_or (map test slots) t.1 false) (map (λ item. (get_or tags item [], item)) (range_with_len 0 n))
 
-  cond-append : (b : Bool) (tag : List ℕ) (tags later more : List (List ℕ)) → tags ≡ later ++ more
-      → cond b (tag ∷ tags) tags ≡ cond b (tag ∷ later) later ++ more
-  cond-append true tag tags later more same = ap (λ (all : List (List ℕ)). tag ∷ all) same
-  cond-append false tag tags later more same = same
+  -- one item more
+  tags_before-more : (i : ℕ) (slot : Slot) → slice_get slots i ≡ Some slot
+      → tags_before (i + 1) ≡ tags_before i ++ cond (test slot) ((get_or tags i [], i) ∷ []) []
+  tags_before-more i slot is =
+      let here : get_or (map test slots) i false ≡ test slot =
+      get_or-map test slots i slot false (slice_get_within slots i slot is) ∙ ap test (get_or_from_slice_get slots i slot slot is) in
+      filter_of_map_range_with_len_more (λ (t : List ℕ × ℕ). get_or (map test slots) t.1 false) (λ (item : ℕ). (get_or tags item [], item)) 0 i i (omega arith)
+      ∙ ap (λ (b : Bool). tags_before i ++ cond b ((get_or tags i [], i) ∷ []) []) here
 
-  -- one slot more
-  pub tags_where-more : (slots : List Slot) (tags : List (List ℕ)) (i : ℕ) (slot : Slot) (tag : List ℕ) → i < length slots → i < length tags
-      → tags_where test (take (i + 1) slots) (take (i + 1) tags)
-      ≡ tags_where test (take i slots) (take i tags) ++ cond (test (get_or slots i slot)) (get_or tags i tag ∷ []) []
-  tags_where-more [] tags i slot tag l m = absurd (omega arith)
-  tags_where-more (s ∷ slots) [] i slot tag l m = absurd (omega arith)
-  tags_where-more (s ∷ slots) (t ∷ tags) zero slot tag l m = refl
-  tags_where-more (s ∷ slots) (t ∷ tags) (suc i) slot tag l m =
-      let next : suc i + 1 ≡ suc (i + 1) = omega arith in
-      ap₂ (λ (all : List Slot) (own : List (List ℕ)). tags_where test all own) (ap (λ (n : ℕ). take n (s ∷ slots)) next) (ap (λ (n : ℕ). take n (t ∷ tags)) next)
-      ∙ cond-append (test s) t (tags_where test (take (i + 1) slots) (take (i + 1) tags)) (tags_where test (take i slots) (take i tags))
-      (cond (test (get_or slots i slot)) (get_or tags i tag ∷ []) []) (tags_where-more slots tags i slot tag (omega arith) (omega arith))
+  -- one item more whose slot passes, and one whose slot does not
+  pub tags_before-passes : (found : List (List ℕ × ℕ)) (i : ℕ) (slot : Slot) → slice_get slots i ≡ Some slot → test slot ≡ true
+      → found ≡ tags_before i → found ++ (get_or tags i [], i) ∷ [] ≡ tags_before (i + 1)
+  tags_before-passes found i slot is passes before =
+      ap (λ (all : List (List ℕ × ℕ)). all ++ (get_or tags i [], i) ∷ []) before
+      ∙ sym (tags_before-more i slot is ∙ ap (λ (b : Bool). tags_before i ++ cond b ((get_or tags i [], i) ∷ []) []) passes)
 
-  -- one slot more that passes, and one that does not
-  pub tags_where-passes : (slots : List Slot) (tags found : List (List ℕ)) (i : ℕ) (slot : Slot) (tag : List ℕ) → i < length slots → i < length tags
-      → slice_get slots i ≡ Some slot → get_or tags i [] ≡ tag → test slot ≡ true → found ≡ tags_where test (take i slots) (take i tags)
-      → found ++ tag ∷ [] ≡ tags_where test (take (i + 1) slots) (take (i + 1) tags)
-  tags_where-passes slots tags found i slot tag l m is own passes before =
-      let here : get_or slots i slot ≡ slot = get_or_from_slice_get slots i slot slot is in
-      ap₂ (λ (all : List (List ℕ)) (one : List ℕ). all ++ one ∷ []) before (sym own)
-      ∙ sym (tags_where-more slots tags i slot [] l m
-      ∙ ap (λ (b : Bool). tags_where test (take i slots) (take i tags) ++ cond b (get_or tags i [] ∷ []) []) (ap test here ∙ passes))
-
-  pub tags_where-fails : (slots : List Slot) (tags found : List (List ℕ)) (i : ℕ) (slot : Slot) → i < length slots → i < length tags
-      → slice_get slots i ≡ Some slot → test slot ≡ false → found ≡ tags_where test (take i slots) (take i tags)
-      → found ≡ tags_where test (take (i + 1) slots) (take (i + 1) tags)
-  tags_where-fails slots tags found i slot l m is fails before =
-      let here : get_or slots i slot ≡ slot = get_or_from_slice_get slots i slot slot is in
-      before ∙ sym (tags_where-more slots tags i slot [] l m
-      ∙ (ap (λ (b : Bool). tags_where test (take i slots) (take i tags) ++ cond b (get_or tags i [] ∷ []) []) (ap test here ∙ fails)
-      ∙ append-nil (tags_where test (take i slots) (take i tags))))
+  pub tags_before-fails : (found : List (List ℕ × ℕ)) (i : ℕ) (slot : Slot) → slice_get slots i ≡ Some slot → test slot ≡ false
+      → found ≡ tags_before i → found ≡ tags_before (i + 1)
+  tags_before-fails found i slot is fails before =
+      before
+      ∙ sym (tags_before-more i slot is
+      ∙ (ap (λ (b : Bool). tags_before i ++ cond b ((get_or tags i [], i) ∷ []) []) fails ∙ append-nil (tags_before i)))

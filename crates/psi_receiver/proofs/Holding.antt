@@ -26,14 +26,14 @@ use Rattle.psi_receiver.specs.declared.own.OwnTags.{OwnTags}
 use Rattle.psi_receiver.specs.declared.phase.Merge.{Merge}
 use Rattle.psi_receiver.specs.declared.phase.Phase.{Phase}
 use Rattle.psi_receiver.specs.declared.phase.Phase.TheVariants as phase
-use Rattle.psi_receiver.specs.Own.{AreFindable, AreFound, AreOwnTags, AreShownBy, IsMarkedList, IsMerging, Marked, marked_of, marks_of, own_tag_of, own_tags_in, slots_in}
+use Rattle.psi_receiver.specs.Own.{AreCarriable, AreCarried, AreOwnTags, AreShownBy, IsMarkedList, IsMerging, Marked, marked_of, marks_of, own_tag_of, own_tags_in, slots_in}
 use Rattle.psi_receiver.specs.Phases.{first_of, next_phase, phase_after_column}
 use Rattle.psi_receiver.specs.Running.{HasFound, IsAwaiting, IsMemory, IsMergeable, IsSession, Stands, next_of, rest_in, running, stage_in, state_of}
 use Rattle.psi_receiver.specs.Script.{no_floor}
 use Rattle.psi_receiver.proofs.Going.{block_due, some_columns, some_end}
 use Rattle.psi_receiver.proofs.Hearing.{width_of}
 use Rattle.psi_receiver.proofs.Marks.{merging_starts}
-use Rattle.psi_receiver.proofs.Shown.{own_tags_are_findable, shown_by_found, slots_have_lists}
+use Rattle.psi_receiver.proofs.Shown.{own_marks_are_carriable, shown_by_carried, slots_have_lists}
 
 -- ---- slots
 
@@ -157,23 +157,20 @@ module _ (deal : ReceiverDeal) (items : List (List ℕ)) (slots : List Slot) whe
         (few_slots memory (phase.Columns next count) is) (few_bytes memory (phase.Columns next count) is) is.stands.0 is.stands.1;
   }
 
-  -- its own tags can be looked up
-  pub session_finds : (memory : Memory) (p : Phase) → IsSession deal items slots memory p
-      → AreFindable (bins_for (length slots)) slots memory.own.by_item.items (marks_of memory.own)
-  session_finds memory p is =
+  -- its marks can be carried to its items
+  pub session_carries : (memory : Memory) (p : Phase) → IsSession deal items slots memory p
+      → AreCarriable (length memory.shown.items) memory.own.lists.items
+  session_carries memory p is =
       let many = as_many_slots deal.stash (bins_for (length items)) deal.key items slots is.placed in
-      own_tags_are_findable deal slots memory.own is.holds.own
-      (λ i slot at.
-      subst (λ (n : ℕ). list_of_slot (bins_for n) slot < 3 + deal.stash) (sym many)
-      (slots_have_lists deal.stash (bins_for (length items)) deal.key items slots is.placed.each i slot at))
+      own_marks_are_carriable deal slots memory.own is.holds.own (length memory.shown.items) (is.holds.shown ∙ sym many)
 
   -- a session that puts the end
   pub session_after_end : (memory memory' : Memory) → IsSession deal items slots memory phase.Done
       → memory' ≡ record memory { outbox = memory'.outbox; shown = memory'.shown } → memory'.outbox ≡ with_added (layout done_frame) memory.outbox
       → length memory'.shown.items ≡ length memory.shown.items
-      → AreFound (bins_for (length slots)) slots memory.own.by_item.items (marks_of memory.own) memory'.shown.items
+      → AreCarried memory.own.lists.items memory'.shown.items
       → IsSession deal items slots memory' phase.Over
-  session_after_end memory memory' is same box long found =
+  session_after_end memory memory' is same box long carried =
       let own : memory'.own ≡ memory.own = ap (λ (m : Memory). m.own) same in
       let with_frame = holds_with_frame memory memory'.outbox (layout done_frame) is.holds box (omega arith) in
       record {
@@ -191,7 +188,7 @@ module _ (deal : ReceiverDeal) (items : List (List ℕ)) (slots : List Slot) whe
               spare = with_frame.spare;
             });
         stands = subst (λ (o : OwnTags). AreShownBy deal slots (marks_of o) memory'.shown.items) (sym own)
-            (shown_by_found deal slots memory.own is.holds.own memory'.shown.items found);
+            (shown_by_carried deal slots memory.own is.holds.own memory'.shown.items carried);
       }
 
   none_behind : (a b : List ℕ) → a ++ b ≡ [] → b ≡ []

@@ -1,11 +1,11 @@
 pub mod Gathering
 pub mod RowCodes
-pub mod Unmarking
 pub mod Merging
 pub mod Awaited
 pub mod Hearing
 pub mod Marks
 pub mod Shown
+pub mod Unmarking
 pub mod Hits
 mod Coming
 mod Going

@@ -1,42 +1,19 @@
--- Own tags that are looked up in their lists.
-use Rattle.std.proofs.Common.{◌≡◌, ◌+◌, ◌-◌, ◌<◌, ◌≤◌, ◌==◌, ℕ, zero, suc, nat_eq, Bool, true, false, List, [], ◌∷◌, length, map, get_or, option_map, nat_cmp, Contains, IsSorted, Some, Less, Equal, Greater, refl, sym, ap, subst, inl, inr, ⊎_elim, ◌∙◌, arith}
-use Rattle.std.specs.Cmp.Lexicographic.{slice_cmp}
+-- Own tags whose marks are carried to their items.
+use Rattle.std.proofs.Common.{◌≡◌, ◌+◌, ◌-◌, ◌<◌, ◌≤◌, ℕ, zero, suc, nat_eq, Bool, true, false, Option, List, [], ◌∷◌, length, map, get_or, option_map, Contains, Some, None, refl, sym, ap, subst, inl, inr, ⊎_elim, ◌∙◌, arith}
 use Rattle.std.specs.List.{AllZip, slice_get, slice_set}
-use Rattle.std.specs.List.Sorted.{IsNonDecreasingBy, IsPartitionPoint}
-use Rattle.std.specs.Ordering.{ordering_index}
-use Rattle.std.proofs.lemmas.Bool.{cases_eq, cases_lt, eq-eqb, ne_eqb}
-use Rattle.std.proofs.lemmas.Cmp.{nat_list_cmp_total, tied_itself}
-use Rattle.std.proofs.lemmas.List.{get_or_default, get_or-map, get_or-set_other, get_or-set_same, length-map, length-set, map-set}
-use Rattle.std.proofs.lemmas.Option.{get_or_from_slice_get, none-some, same_Some, slice_get-map, slice_get_read, slice_get_within}
-use Rattle.std.proofs.lemmas.List.Sorted.{Contains-permutation, searchable_from_sorted}
+use Rattle.std.proofs.lemmas.Bool.{cases_eq, eq-eqb, ne_eqb}
+use Rattle.std.proofs.lemmas.List.{get_or_default, length-map, length-set, map-set}
+use Rattle.std.proofs.lemmas.Option.{none-some, same_Some, slice_get-map, slice_get_read, slice_get_within}
 use Rattle.psi_spec.specs.Deals.{ReceiverDeal}
 use Rattle.psi_spec.specs.Limits.{bins_for, rows_for}
-use Rattle.psi_spec.specs.Rising.{rising}
-use Rattle.psi_receiver.specs.declared.own.OwnTags.{OwnTags}
 use Rattle.psi_spec.specs.Hits.{list_of_slot}
 use Rattle.psi_spec.specs.Placement.{MayHave, Slot, candidates_of}
-use Rattle.psi_receiver.specs.Own.{AreFindable, AreFound, AreOwnTags, AreShownBy, IsFindable, IsMarkedList, IsShownBy, Marked, marked_of, marks_of, own_tag_of, own_tags_in, slots_in}
+use Rattle.psi_receiver.specs.Own.{AreCarriable, AreCarried, AreItemsIn, AreOwnTags, AreShownBy, HasOwnTag, IsMarkedList, IsShownAmong, IsShownBy, Marked, marked_of, marks_of, own_tag_of, own_tags_in}
 use Rattle.psi_receiver.specs.declared.own.OwnList.{OwnList}
+use Rattle.psi_receiver.specs.declared.own.OwnTags.{OwnTags}
 use Rattle.psi_receiver.proofs.Marks.{slice_get-set_other, slice_get-set_same}
-use Rattle.psi_spec.proofs.Lists.{Contains-filter, Contains-map}
-use Rattle.psi_spec.proofs.Rising.{IsSorted-rising, rising_moves}
 
--- a binary search of rising tags finds a tag that is one of them
-pub never_missed : (tags : List (List ℕ)) (tag : List ℕ) (at : ℕ) → IsSorted (slice_cmp nat_cmp) tags → Contains tags tag
-    → (IsNonDecreasingBy (λ y. ordering_index (slice_cmp nat_cmp y tag)) tags
-    → IsPartitionPoint (λ y. slice_cmp nat_cmp y tag ≡ Less) (λ y. slice_cmp nat_cmp y tag ≡ Greater) tags at) → ⊥
-never_missed tags tag at up there missed =
-    let parts = missed (searchable_from_sorted nat_list_cmp_total (λ (x : List ℕ). x) tags tag up) in
-    let tie : slice_cmp nat_cmp (get_or tags there.0 tag) tag ≡ Equal =
-    ap (λ (x : List ℕ). slice_cmp nat_cmp x tag) there.2 ∙ tied_itself nat_list_cmp_total tag in
-    ⊎_elim (λ (l : there.0 < at). less (sym tie ∙ parts.0 there.0 tag (omega arith) l))
-    (λ (l : at ≤ there.0). greater (sym tie ∙ parts.1 there.0 tag l there.1)) (cases_lt there.0 at)
-  where
-    less : Equal ≡ Less → ⊥
-    less e = cc
-
-    greater : Equal ≡ Greater → ⊥
-    greater e = cc
+-- ---- lists and their marks
 
 -- the marks of a list with its number
 pub marks_at : (lists : List OwnList) (k : ℕ) (list : OwnList) → k < length lists → list ≡ get_or lists k list
@@ -44,71 +21,43 @@ pub marks_at : (lists : List OwnList) (k : ℕ) (list : OwnList) → k < length 
 marks_at lists k list l is =
     slice_get-map marked_of lists k ∙ ap (option_map marked_of) (slice_get_read lists (length lists) k list refl l is)
 
--- what a tag that can be looked up in a list asks of it
-pub record IsIn (tag : List ℕ) (list : OwnList) : Type 0 where
-  pub rises : IsSorted (slice_cmp nat_cmp) list.tags.items
-  pub long : length list.hits.items ≡ length list.tags.items
-  pub there : Contains list.tags.items tag
+-- the list that has the marks with a number
+pub list_of_marks : (lists : List OwnList) (k : ℕ) (m : Marked) → slice_get (map marked_of lists) k ≡ Some m
+    → (one : OwnList) × (slice_get lists k ≡ Some one) × (marked_of one ≡ m)
+list_of_marks lists k m there = by_case (slice_get lists k) refl (sym (slice_get-map marked_of lists k) ∙ there)
+  where
+    by_case : (found : Option OwnList) → slice_get lists k ≡ found → option_map marked_of found ≡ Some m
+        → (one : OwnList) × (slice_get lists k ≡ Some one) × (marked_of one ≡ m)
+    by_case None at is = absurd (none-some m is)
+    by_case (Some one) at is = (one, at, same_Some (marked_of one) m is)
 
-module _ (bins : ℕ) (slots : List Slot) (tags : List (List ℕ)) (lists : List OwnList) where
-  module _ (findable : AreFindable bins slots tags (map marked_of lists)) (i k : ℕ) (slot : Slot) (at : Some slot ≡ slice_get slots i)
-      (is : k ≡ list_of_slot bins slot) where
-    -- the slot of an item has a list
-    pub list_within : k < length lists
-    list_within =
-        let within : list_of_slot bins slot < length (map marked_of lists) = (findable.each i slot (sym at)).within in
-        omega (arith, is, within, length-map lists marked_of)
+-- ---- marks that are carried
 
-    -- where its tag can be looked up
-    pub item_is_in : (list : OwnList) (tag : List ℕ) → list ≡ get_or lists k list → tag ≡ get_or tags i tag → IsIn tag list
-    item_is_in list tag l t =
-        let own : IsFindable (get_or tags i []) (map marked_of lists) (list_of_slot bins slot) = findable.each i slot (sym at) in
-        let m : slice_get (map marked_of lists) (list_of_slot bins slot) ≡ Some (marked_of list) =
-        ap (slice_get (map marked_of lists)) (sym is) ∙ marks_at lists k list list_within l in
-        let many : length tags ≡ length slots = findable.many in
-        let inside : i < length slots = slice_get_within slots i slot (sym at) in
-        record {
-          rises = own.rises (marked_of list) m;
-          long = own.long (marked_of list) m;
-          there = subst (Contains list.tags.items) (get_or_default tags i [] tag (omega (arith, many, inside)) ∙ sym t) (own.there (marked_of list) m);
-        }
+module _ (lists : List OwnList) where
+  -- the items of the first so many lists are shown by their marks
+  abbrev pub AreCarriedBefore : ℕ → List Bool → Type 0
+  AreCarriedBefore n shown =
+      (list : ℕ) (one : OwnList) (item : ℕ) → list < n → slice_get lists list ≡ Some one → Contains one.items.items item
+      → IsShownAmong one.items.items one.hits.items item (get_or shown item false)
 
-  -- the items before a place are shown by the marks of their slots' lists
-  abbrev pub AreFoundBefore : ℕ → List Bool → Type 0
-  AreFoundBefore n shown =
-      (j : ℕ) (slot : Slot) (m : Marked) → j < n → slice_get slots j ≡ Some slot
-      → slice_get (map marked_of lists) (list_of_slot bins slot) ≡ Some m
-      → IsShownBy m (get_or tags j []) (get_or shown j false)
-
-  -- and so is the next one
-  pub one_more_found : (i k : ℕ) (slot : Slot) (list : OwnList) (tag : List ℕ) (shown : List Bool) (hit : Bool)
-      → AreFindable bins slots tags (map marked_of lists) → Some slot ≡ slice_get slots i → k ≡ list_of_slot bins slot
-      → list ≡ get_or lists k list → tag ≡ get_or tags i tag → IsShownBy (marked_of list) tag hit → length shown ≡ length slots
-      → AreFoundBefore i shown → AreFoundBefore (i + 1) (slice_set shown i hit)
-  one_more_found i k slot list tag shown hit findable at is l t next size before j slot' m low there here =
-      ⊎_elim same other (cases_eq j i)
+  -- and so are those of the next one
+  pub one_more_carried : (count n : ℕ) (next : OwnList) (shown shown' : List Bool) → AreCarriable count lists → slice_get lists n ≡ Some next
+      → ((item : ℕ) → Contains next.items.items item → IsShownAmong next.items.items next.hits.items item (get_or shown' item false))
+      → ((item : ℕ) → (Contains next.items.items item → ⊥) → get_or shown' item false ≡ get_or shown item false)
+      → AreCarriedBefore n shown → AreCarriedBefore (n + 1) shown'
+  one_more_carried count n next shown shown' carriable at carried kept before list one item l there has = ⊎_elim same other (cases_eq list n)
     where
-      inside : i < length slots
-      inside = slice_get_within slots i slot (sym at)
-
-      other : (j ≡ i → ⊥) → IsShownBy m (get_or tags j []) (get_or (slice_set shown i hit) j false)
-      other d =
-          subst (IsShownBy m (get_or tags j [])) (sym (get_or-set_other shown i j hit false d))
-          (before j slot' m (omega (arith, d)) there here)
-
-      same : j ≡ i → IsShownBy m (get_or tags j []) (get_or (slice_set shown i hit) j false)
+      same : list ≡ n → IsShownAmong one.items.items one.hits.items item (get_or shown' item false)
       same e =
-          let s : slot ≡ slot' = same_Some slot slot' (at ∙ ap (slice_get slots) (sym e) ∙ there) in
-          let m_is : marked_of list ≡ m =
-          same_Some (marked_of list) m
-          (sym (marks_at lists k list (list_within findable i k slot at is) l) ∙ ap (slice_get (map marked_of lists)) (is ∙ ap (list_of_slot bins) s) ∙ here) in
-          let many : length tags ≡ length slots = findable.many in
-          let tag_is : tag ≡ get_or tags j [] =
-          t ∙ get_or_default tags i tag [] (omega (arith, many, inside)) ∙ ap (λ (n : ℕ). get_or tags n []) (sym e) in
-          let hit_is : hit ≡ get_or (slice_set shown i hit) j false =
-          sym (get_or-set_same shown i hit false (omega (arith, size, inside))) ∙ ap (λ (n : ℕ). get_or (slice_set shown i hit) n false) (sym e) in
-          subst (IsShownBy m (get_or tags j [])) hit_is
-          (subst (λ (x : List ℕ). IsShownBy m x hit) tag_is (subst (λ (n : Marked). IsShownBy n tag hit) m_is next))
+          let is : next ≡ one = same_Some next one (sym at ∙ ap (slice_get lists) (sym e) ∙ there) in
+          subst (λ (o : OwnList). IsShownAmong o.items.items o.hits.items item (get_or shown' item false)) is
+          (carried item (subst (λ (o : OwnList). Contains o.items.items item) (sym is) has))
+
+      other : (list ≡ n → ⊥) → IsShownAmong one.items.items one.hits.items item (get_or shown' item false)
+      other d =
+          subst (IsShownAmong one.items.items one.hits.items item)
+          (sym (kept item (λ too. d (carriable.apart list n one next item there at has too))))
+          (before list one item (omega (arith, d)) there has)
 
 -- ---- own tags of a deal
 
@@ -117,59 +66,62 @@ module _ (deal : ReceiverDeal) (slots : List Slot) (own : OwnTags) (are : AreOwn
   abbrev tag_for : Slot → List ℕ
   tag_for slot = own_tag_of deal (rows_for deal.stash (length slots)) slot
 
-  item_tag : (i : ℕ) (slot : Slot) → slice_get slots i ≡ Some slot → get_or own.by_item.items i [] ≡ tag_for slot
-  item_tag i slot at =
-      ap (λ (tags : List (List ℕ)). get_or tags i []) are.by_item
-      ∙ get_or-map tag_for slots i slot [] (slice_get_within slots i slot at)
-      ∙ ap tag_for (get_or_from_slice_get slots i slot slot at)
+  -- an item of a list has its slot there
+  item_has : (list : ℕ) (one : OwnList) (item : ℕ) → slice_get own.lists.items list ≡ Some one → Contains one.items.items item
+      → (tag : List ℕ) × HasOwnTag deal slots list item tag
+  item_has list one item at has =
+      let tag : List ℕ = get_or one.tags.items has.0 [] in (
+        tag,
+        subst (λ (n : ℕ). HasOwnTag deal slots list n tag) (get_or_default one.items.items has.0 0 item has.1 ∙ has.2)
+            ((are.items list one at).each has.0 has.1),
+      )
 
-  -- it is one of those of its list
-  own_tag_is_in : (i : ℕ) (slot : Slot) → slice_get slots i ≡ Some slot
-      → Contains (own_tags_in deal slots (list_of_slot (bins_for (length slots)) slot)) (tag_for slot)
-  own_tag_is_in i slot at =
-      let bins : ℕ = bins_for (length slots) in
-      let here : Contains slots slot = (i, slice_get_within slots i slot at, get_or_from_slice_get slots i slot slot at) in
-      let in_list : Contains (slots_in (list_of_slot bins slot) slots) slot =
-      Contains-filter (λ s. list_of_slot bins s == list_of_slot bins slot) slots slot here (eq-eqb (list_of_slot bins slot) (list_of_slot bins slot) refl) in
-      let tags : List (List ℕ) = map tag_for (slots_in (list_of_slot bins slot) slots) in
-      Contains-permutation tags (rising tags) (tag_for slot) (rising_moves tags)
-      (Contains-map tag_for (slots_in (list_of_slot bins slot) slots) slot in_list)
-
-  -- own tags can be looked up where each slot has a list
-  pub own_tags_are_findable : ((i : ℕ) (slot : Slot) → slice_get slots i ≡ Some slot
-      → list_of_slot (bins_for (length slots)) slot < 3 + deal.stash)
-      → AreFindable (bins_for (length slots)) slots own.by_item.items (marks_of own)
-  own_tags_are_findable each = record {
-    many = ap (λ (tags : List (List ℕ)). length tags) are.by_item ∙ length-map slots tag_for;
-    each = λ i slot at.
-        let list : ℕ = list_of_slot (bins_for (length slots)) slot in
-        record {
-          within = omega (arith, each i slot at, are.many, length-map own.lists.items marked_of);
-          rises = λ m there.
-              subst (IsSorted (slice_cmp nat_cmp)) (sym (are.each list m there).tags_are)
-              (IsSorted-rising (map tag_for (slots_in list slots)));
-          long = λ m there. (are.each list m there).long;
-          there = λ m there.
-              subst (Contains m.tags) (sym (item_tag i slot at))
-              (subst (λ (tags : List (List ℕ)). Contains tags (tag_for slot)) (sym (are.each list m there).tags_are) (own_tag_is_in i slot at));
-        };
+  -- their marks can be carried to the items
+  pub own_marks_are_carriable : (count : ℕ) → count ≡ length slots → AreCarriable count own.lists.items
+  own_marks_are_carriable count many = record {
+    long = λ list one at.
+        (are.each list (marked_of one) (slice_get-map marked_of own.lists.items list ∙ ap (option_map marked_of) at)).long
+        ∙ sym (are.items list one at).many;
+    low = λ list one at place d l.
+        let has : HasOwnTag deal slots list (get_or one.items.items place 0) (get_or one.tags.items place []) = (are.items list one at).each place l in
+        let inside = slice_get_within slots (get_or one.items.items place 0) has.slot has.at in
+        omega (arith, many, inside, get_or_default one.items.items place d 0 l);
+    apart = λ list other one two item at there has too.
+        let in_one : HasOwnTag deal slots list item _ = (item_has list one item at has).1 in
+        let in_two : HasOwnTag deal slots other item _ = (item_has other two item there too).1 in
+        let same : in_one.slot ≡ in_two.slot = same_Some in_one.slot in_two.slot (sym in_one.at ∙ in_two.at) in
+        sym in_one.listed ∙ (ap (list_of_slot (bins_for (length slots))) same ∙ in_two.listed);
   }
 
-  -- and what is found of them is what is shown
-  pub shown_by_found : (shown : List Bool) → AreFound (bins_for (length slots)) slots own.by_item.items (marks_of own) shown
-      → AreShownBy deal slots (marks_of own) shown
-  shown_by_found shown found i slot m at there =
-      subst (λ (tag : List ℕ). IsShownBy m tag (get_or shown i false)) (item_tag i slot at) (found i slot m at there)
+  -- and once they are, the items are shown by them
+  pub shown_by_carried : (shown : List Bool) → AreCarried own.lists.items shown → AreShownBy deal slots (marks_of own) shown
+  shown_by_carried shown carried i slot m at there =
+      let list : ℕ = list_of_slot (bins_for (length slots)) slot in
+      let found = list_of_marks own.lists.items list m there in
+      let one : OwnList = found.0 in
+      let items : AreItemsIn deal slots list one.tags.items one.items.items = are.items list one found.1 in
+      let by : IsShownAmong one.items.items one.hits.items i (get_or shown i false) = carried list one i found.1 (items.all i slot at refl) in
+      let has : HasOwnTag deal slots list (get_or one.items.items by.place 0) (get_or one.tags.items by.place []) = items.each by.place by.within in
+      let same : has.slot ≡ slot = same_Some has.slot slot (sym has.at ∙ ap (slice_get slots) by.same ∙ at) in
+      let within = by.within in
+      let many = items.many in
+      let by_list : IsShownBy (marked_of one) (tag_for slot) (get_or shown i false) = record {
+        place = by.place;
+        within = omega (arith, within, many);
+        same = sym has.tagged ∙ ap tag_for same;
+        as_marked = by.as_marked;
+      } in
+      subst (λ (n : Marked). IsShownBy n (tag_for slot) (get_or shown i false)) found.2 by_list
 
 -- they stay where a list is marked anew
 pub own_tags_stay : (deal : ReceiverDeal) (slots : List Slot) (own own' : OwnTags) (l : ℕ) (list list' : OwnList) → AreOwnTags deal slots own
-    → own'.by_item.items ≡ own.by_item.items → own'.lists.items ≡ slice_set own.lists.items l list'
-    → slice_get own.lists.items l ≡ Some list → list'.tags.items ≡ list.tags.items
+    → own'.lists.items ≡ slice_set own.lists.items l list' → slice_get own.lists.items l ≡ Some list
+    → list'.tags.items ≡ list.tags.items → list'.items.items ≡ list.items.items
     → length list'.hits.items ≡ length list.hits.items → AreOwnTags deal slots own'
-own_tags_stay deal slots own own' l list list' are items lists at tags hits = record {
-  by_item = items ∙ are.by_item;
+own_tags_stay deal slots own own' l list list' are lists at tags items hits = record {
   many = ap (λ (xs : List OwnList). length xs) lists ∙ length-set own.lists.items l list' ∙ are.many;
   each = λ k m there. ⊎_elim (same k m there) (other k m there) (cases_eq k l);
+  items = λ k one there. ⊎_elim (same_items k one there) (other_items k one there) (cases_eq k l);
 }
   where
     marks_are : marks_of own' ≡ slice_set (marks_of own) l (marked_of list')
@@ -193,6 +145,24 @@ own_tags_stay deal slots own own' l list list' are items lists at tags hits = re
     other k m there d =
         are.each k m
         (sym (slice_get-set_other (marks_of own) l k (marked_of list') d) ∙ ap (λ (ms : List Marked). slice_get ms k) (sym marks_are) ∙ there)
+
+    same_items : (k : ℕ) (one : OwnList) → slice_get own'.lists.items k ≡ Some one → k ≡ l → AreItemsIn deal slots k one.tags.items one.items.items
+    same_items k one there e =
+        let is : list' ≡ one =
+        same_Some list' one
+        (sym (slice_get-set_same own.lists.items l list' list at)
+        ∙ ap (λ (xs : List OwnList). slice_get xs l) (sym lists) ∙ ap (slice_get own'.lists.items) (sym e) ∙ there) in
+        let after : AreItemsIn deal slots l list'.tags.items list'.items.items =
+        subst (λ (ts : List (List ℕ)). AreItemsIn deal slots l ts list'.items.items) (sym tags)
+        (subst (AreItemsIn deal slots l list.tags.items) (sym items) (are.items l list at)) in
+        subst (λ (j : ℕ). AreItemsIn deal slots j one.tags.items one.items.items) (sym e)
+        (subst (λ (o : OwnList). AreItemsIn deal slots l o.tags.items o.items.items) is after)
+
+    other_items : (k : ℕ) (one : OwnList) → slice_get own'.lists.items k ≡ Some one → (k ≡ l → ⊥)
+        → AreItemsIn deal slots k one.tags.items one.items.items
+    other_items k one there d =
+        are.items k one
+        (sym (slice_get-set_other own.lists.items l k list' d) ∙ ap (λ (xs : List OwnList). slice_get xs k) (sym lists) ∙ there)
 
 -- ---- lists of slots
 

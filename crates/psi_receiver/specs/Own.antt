@@ -1,8 +1,6 @@
 -- The receiver's own tags, list by list, and which of them came.
-use Rattle.std.specs.Prelude.{◌≡◌, ◌+◌, ◌==◌, ◌<◌, ◌≤◌, ℕ, Bool, true, false, List, [], ◌∷◌, ◌++◌, length, map, filter, slice_get, slice_index_or, Some, if◌then◌else◌}
-use Rattle.std.specs.Prelude.{Contains, IsSorted}
-use Rattle.std.specs.Cmp.Lexicographic.{slice_cmp}
-use Rattle.std.specs.Ordering.{nat_cmp}
+use Rattle.std.specs.Prelude.{◌≡◌, ◌+◌, ◌==◌, ◌<◌, ◌≤◌, ℕ, Bool, true, false, List, [], ◌∷◌, ◌++◌, length, map, filter, slice_get, slice_index, slice_index_or, Some, if◌then◌else◌}
+use Rattle.std.specs.Prelude.{All, Contains}
 use Rattle.psi_spec.specs.Limits.{bins_for, rows_for}
 use Rattle.psi_spec.specs.Columns.{row_of}
 use Rattle.psi_spec.specs.Deals.{ReceiverDeal, zero_columns}
@@ -53,12 +51,29 @@ pub record IsMarkedList (tags : List (List ℕ)) (m : Marked) : Type 0 where
   pub tags_are : m.tags ≡ tags
   pub long : length m.hits ≡ length m.tags
 
--- the own tags of slots, by item and in each list
+-- an item has its slot in a list, and there this own tag
+pub record HasOwnTag (deal : ReceiverDeal) (slots : List Slot) (list item : ℕ) (tag : List ℕ) : Type 0 where
+  pub slot : Slot
+  pub at : slice_get slots item ≡ Some slot
+  pub listed : list_of_slot (bins_for (length slots)) slot ≡ list
+  pub tagged : own_tag_of deal (rows_for deal.stash (length slots)) slot ≡ tag
+
+-- the own tags of a list are those of these items in turn, and all items with a slot in the list are among them
+pub record AreItemsIn (deal : ReceiverDeal) (slots : List Slot) (list : ℕ) (tags : List (List ℕ)) (items : List ℕ)
+    : Type 0 where
+  pub many : length items ≡ length tags
+  pub each : (place : ℕ) → place < length items
+      → HasOwnTag deal slots list (slice_index items place) (slice_index_or tags place [])
+  pub all : (item : ℕ) (slot : Slot) → slice_get slots item ≡ Some slot
+      → list_of_slot (bins_for (length slots)) slot ≡ list → Contains items item
+
+-- the own tags of slots in each list, with a mark and the item of each
 pub record AreOwnTags (deal : ReceiverDeal) (slots : List Slot) (own : OwnTags) : Type 0 where
-  pub by_item : own.by_item.items ≡ own_tags deal slots
   pub many : length own.lists.items ≡ 3 + deal.stash
   pub each : (list : ℕ) (m : Marked) → slice_get (marks_of own) list ≡ Some m
       → IsMarkedList (own_tags_in deal slots list) m
+  pub items : (list : ℕ) (one : OwnList) → slice_get own.lists.items list ≡ Some one
+      → AreItemsIn deal slots list one.tags.items one.items.items
 
 -- no tag is marked
 abbrev pub AreUnmarked : List Marked → Type 0
@@ -98,25 +113,29 @@ pub record IsShownBy (m : Marked) (tag : List ℕ) (shown : Bool) : Type 0 where
   pub same : slice_index_or m.tags place [] ≡ tag
   pub as_marked : shown ≡ slice_index_or m.hits place false
 
--- a tag is one of the tags of the list with this number, which rise and have a mark each
-pub record IsFindable (tag : List ℕ) (lists : List Marked) (list : ℕ) : Type 0 where
-  pub within : list < length lists
-  pub rises : (m : Marked) → slice_get lists list ≡ Some m → IsSorted (slice_cmp nat_cmp) m.tags
-  pub long : (m : Marked) → slice_get lists list ≡ Some m → length m.hits ≡ length m.tags
-  pub there : (m : Marked) → slice_get lists list ≡ Some m → Contains m.tags tag
+-- an item has a place among these, and is shown where it is marked there
+pub record IsShownAmong (items : List ℕ) (hits : List Bool) (item : ℕ) (shown : Bool) : Type 0 where
+  pub place : ℕ
+  pub within : place < length items
+  pub same : slice_index items place ≡ item
+  pub as_marked : shown ≡ slice_index_or hits place false
 
--- the tag of each item is one of those of its slot's list
-pub record AreFindable (bins : ℕ) (slots : List Slot) (tags : List (List ℕ)) (lists : List Marked) : Type 0 where
-  pub many : length tags ≡ length slots
-  pub each : (i : ℕ) (slot : Slot) → slice_get slots i ≡ Some slot
-      → IsFindable (slice_index_or tags i []) lists (list_of_slot bins slot)
+-- the marks of lists can be carried to so many items: each list has a mark for each of its items, which are some of
+-- these, and no two lists have one item
+pub record AreCarriable (count : ℕ) (lists : List OwnList) : Type 0 where
+  pub long : (list : ℕ) (one : OwnList) → slice_get lists list ≡ Some one
+      → length one.hits.items ≡ length one.items.items
+  pub low : (list : ℕ) (one : OwnList) → slice_get lists list ≡ Some one
+      → All (λ item. item < count) one.items.items
+  pub apart : (list other : ℕ) (one two : OwnList) (item : ℕ) → slice_get lists list ≡ Some one
+      → slice_get lists other ≡ Some two → Contains one.items.items item → Contains two.items.items item
+      → list ≡ other
 
--- each item is shown by the marks of its slot's list
-abbrev pub AreFound : ℕ → List Slot → List (List ℕ) → List Marked → List Bool → Type 0
-AreFound bins slots tags lists shown =
-    (i : ℕ) (slot : Slot) (m : Marked) → slice_get slots i ≡ Some slot
-    → slice_get lists (list_of_slot bins slot) ≡ Some m
-    → IsShownBy m (slice_index_or tags i []) (slice_index_or shown i false)
+-- the items of each list are shown by its marks
+abbrev pub AreCarried : List OwnList → List Bool → Type 0
+AreCarried lists shown =
+    (list : ℕ) (one : OwnList) (item : ℕ) → slice_get lists list ≡ Some one → Contains one.items.items item
+    → IsShownAmong one.items.items one.hits.items item (slice_index_or shown item false)
 
 -- the slot of each item has a list, by the marks of which the item is shown
 abbrev pub AreShownBy : ReceiverDeal → List Slot → List Marked → List Bool → Type 0

@@ -1,6 +1,6 @@
 -- Slots as the receiver uses them, and the tags that it makes of them.
-use Rattle.std.specs.Prelude.{◌≡◌, ◌<◌, ◌≤◌, ◌==◌, ℕ, Bool, List, [], ◌∷◌, All, length, map, nat_eq, slice_index_or, if◌then◌else◌}
-use Rattle.std.specs.List.{IsDistinct}
+use Rattle.std.specs.Prelude.{◌≡◌, ◌<◌, ◌≤◌, ◌==◌, ℕ, Bool, false, List, [], All, filter, length, map, nat_eq, slice_index_or}
+use Rattle.std.specs.List.{IsDistinct, range_with_len}
 use Rattle.psi_spec.specs.Deals.{ReceiverDeal}
 use Rattle.psi_spec.specs.Formulas.{padded_tag}
 use Rattle.psi_spec.specs.Hits.{list_of_slot}
@@ -24,9 +24,10 @@ tag_of_word deal rows slot = padded_tag deal.key deal.tag_length slot.row (slice
 abbrev pub is_in_list : ℕ → ℕ → Slot → Bool
 is_in_list bins list slot = list_of_slot bins slot == list
 
--- of the tags of slots those whose slot passes a test, in order
-abbrev pub tags_where : (Slot → Bool) → List Slot → List (List ℕ) → List (List ℕ)
-tags_where test [] tags = []
-tags_where test (slot ∷ slots) [] = []
-tags_where test (slot ∷ slots) (tag ∷ tags) =
-    if test slot then tag ∷ tags_where test slots tags else tags_where test slots tags
+-- each of the tags by item, with the number of its item
+abbrev pub tags_with_items : List (List ℕ) → List (List ℕ × ℕ)
+tags_with_items tags = map (λ item. (slice_index_or tags item [], item)) (range_with_len 0 (length tags))
+
+-- of the tags by item those whose slot passes a test, each with its item, in order
+abbrev pub tags_where : (Slot → Bool) → List Slot → List (List ℕ) → List (List ℕ × ℕ)
+tags_where test slots tags = filter (λ t. slice_index_or (map test slots) t.1 false) (tags_with_items tags)

@@ -23,6 +23,7 @@ pub(crate) fn mark_block(list: &mut OwnList, from: u32, bytes: &[u8], width: u8)
     requires block { IsBlock width bytes.now }
     requires merging { IsMerging (first_in width bytes.now) from (marked_of list.old) }
     ensures tags { list.new.tags.items ≡ list.old.tags.items }
+    ensures items { list.new.items.items ≡ list.old.items.items }
     ensures hits { length list.new.hits.items ≡ length list.old.hits.items }
     ensures marked { (i : ℕ) → i < length list.old.tags.items →
         slice_index_or list.new.hits.items i false

@@ -2,7 +2,7 @@
 #![tactic(auto)]
 
 mod blocks;
-mod finding;
+mod carrying;
 pub mod laws;
 mod logged;
 mod marking;

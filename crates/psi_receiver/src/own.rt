@@ -1,13 +1,13 @@
 // The own tags of the items.
-ghost use Rattle.std.specs.Prelude.{◌≡◌, ◌≤◌, ◌<◌, ◌+◌, ◌^◌, ℕ, [], length, map, take, drop, slice_index_or, All, IfOk};
+ghost use Rattle.std.specs.Prelude.{◌≡◌, ◌≤◌, ◌<◌, ◌+◌, ◌^◌, ℕ, [], length, map, take, drop, slice_index_or, All, IfOk, IsPermutation};
 ghost use Rattle.psi_spec.specs.Columns.{row_of};
 ghost use Rattle.psi_spec.specs.Deals.{zero_columns};
 ghost use Rattle.psi_spec.specs.Hits.{list_of_slot};
 ghost use Rattle.psi_spec.specs.Limits.{bins_for, limit_items, row_limit, rows_for};
 ghost use Rattle.psi_spec.specs.Rising.{rising};
 ghost use Rattle.psi_cuckoo.specs.Table.{slot_of};
-ghost use Rattle.psi_receiver.specs.Own.{AreOwnTags, AreUnmarked, marked_of, marks_of};
-ghost use Rattle.psi_receiver.specs.Unmarked.{unmarked_list, unmarked_lists};
+ghost use Rattle.psi_receiver.specs.Own.{AreOwnTags, AreUnmarked, marks_of};
+ghost use Rattle.psi_receiver.specs.Unmarked.{AreUnmarkedLists, IsUnmarked, IsUnmarkedList};
 ghost use Rattle.psi_receiver.specs.Slots.{AreWithin, is_in_list, tag_of_word, tags_where};
 
 use crate::rows::BATCH;
@@ -18,11 +18,13 @@ use psi_deal::ReceiverDeal;
 use psi_oprf::{Tag, tags};
 use std::alloc::Global;
 
-/// The own tags of one list, in rising order, and which of them came.
+/// The own tags of one list, whose they are, and which of them came.
 #[derive(Drop)]
 pub(crate) struct OwnList {
-    /// The tags, padded.
+    /// The tags, padded, in rising order.
     pub(crate) tags: Vec<Tag>,
+    /// The number of the item of each of them.
+    pub(crate) items: Vec<u32>,
     /// A mark for each of them.
     pub(crate) hits: Vec<bool>,
 }
@@ -30,11 +32,12 @@ pub(crate) struct OwnList {
 /// The own tags of all items.
 #[derive(Drop)]
 pub(crate) struct OwnTags {
-    /// The tag of each item, padded, in the order of the items.
-    pub(crate) by_item: Vec<Tag>,
     /// The tags that are looked up in each list.
     pub(crate) lists: Vec<OwnList>,
 }
+
+// A tag, padded, and the number of its item.
+type ItemTag = (Tag, u32);
 
 // The row of each slot from a place on.
 fn put_numbers(placement: &Placement, at: u32, numbers: &mut [u32])
@@ -100,13 +103,13 @@ pub(crate) fn list_of(slot: Slot, bins: u32) -> usize
     }
 }
 
-// Of the tags by item those that are looked up in a list, in the order of the items.
+// Of the tags by item those that are looked up in a list, each with its item, in the order of the items.
 fn tags_of_list(
     alloc: Global,
     placement: &Placement,
     by_item: &[Tag],
     list: u32,
-) -> Result<Vec<Tag>, NoMemory>
+) -> Result<Vec<ItemTag>, NoMemory>
     requires many { length by_item.now ≡ length placement.now }
     requires few { length placement.now ≤ limit_items }
     requires slots { AreWithin row_limit placement.now }
@@ -118,20 +121,45 @@ fn tags_of_list(
     for i in 0..placement.len() {
         let slot = placement.slot(i).unwrap();
         if list_of(slot, bins) == list as usize {
-            found.push(by_item[i as usize])?;
+            found.push((by_item[i as usize], i))?;
         }
     }
     Ok(found)
 }
 
-// Puts tags into rising order.
-fn sort_tags(tags: &mut [Tag])
-    ensures { tags.new ≡ rising tags.old }
+// Puts tags into rising order, each with its item.
+fn sort_tags(tags: &mut [ItemTag])
+    ensures moved { IsPermutation tags.old tags.new }
+    ensures rise { map (λ t. t.0) tags.new ≡ rising (map (λ t. t.0) tags.old) }
 {
     tags.sort_unstable();
 }
 
-// The tags of a list, of which none is marked.
+// Parts tags from their items.
+fn split(tagged: &[ItemTag], tags: &mut [Tag], items: &mut [u32])
+    requires tags { length tags.old ≡ length tagged.now }
+    requires items { length items.old ≡ length tagged.now }
+    ensures tags { tags.new ≡ map (λ t. t.0) tagged.now }
+    ensures items { items.new ≡ map (λ t. t.1) tagged.now }
+{
+    for place in 0..tagged.len() {
+        tags[place] = tagged[place].0;
+        items[place] = tagged[place].1;
+    }
+}
+
+// The list of these tags with their items, of which none is marked.
+fn unmarked(alloc: Global, tagged: &[ItemTag]) -> Result<OwnList, NoMemory>
+    ensures { IfOk result (IsUnmarked tagged.now) }
+{
+    let mut tags = vec![in alloc; [0; 16]; tagged.len()]?;
+    let mut items = vec![in alloc; 0; tagged.len()]?;
+    let hits = vec![in alloc; false; tagged.len()]?;
+    split(tagged, &mut tags, &mut items);
+    Ok(OwnList { tags, items, hits })
+}
+
+// The tags of a list with their items, of which none is marked.
 fn own_list(
     alloc: Global,
     placement: &Placement,
@@ -141,15 +169,14 @@ fn own_list(
     requires many { length by_item.now ≡ length placement.now }
     requires few { length placement.now ≤ limit_items }
     requires slots { AreWithin row_limit placement.now }
-    ensures { IfOk result (λ own. marked_of own ≡ unmarked_list placement.now by_item.now list) }
+    ensures { IfOk result (IsUnmarkedList placement.now by_item.now list) }
 {
     let mut tags = tags_of_list(alloc, placement, by_item, list)?;
     sort_tags(&mut tags);
-    let hits = vec![in alloc; false; tags.len()]?;
-    Ok(OwnList { tags, hits })
+    unmarked(alloc, &tags)
 }
 
-// The tags of so many lists, of which none is marked.
+// The tags of so many lists with their items, of which none is marked.
 fn own_lists(
     alloc: Global,
     placement: &Placement,
@@ -159,7 +186,7 @@ fn own_lists(
     requires many { length by_item.now ≡ length placement.now }
     requires few { length placement.now ≤ limit_items }
     requires slots { AreWithin row_limit placement.now }
-    ensures { IfOk result (λ lists. map marked_of lists.items ≡ unmarked_lists placement.now by_item.now count) }
+    ensures { IfOk result (λ lists. AreUnmarkedLists placement.now by_item.now count lists.items) }
 {
     let mut lists = Vec::with_capacity(alloc, count as usize)?;
     for list in 0..count {
@@ -187,5 +214,5 @@ pub(crate) fn own_tags(
     let mut by_item = vec![in alloc; [0; 16]; placement.len() as usize]?;
     item_tags(deal, placement, rows, &mut by_item);
     let lists = own_lists(alloc, placement, &by_item, 3 + u32::from(deal.stash()))?;
-    Ok(OwnTags { by_item, lists })
+    Ok(OwnTags { lists })
 }

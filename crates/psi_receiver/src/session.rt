@@ -168,7 +168,7 @@ impl<'a> Session<'a> {
                 count,
             ),
             Phase::Done => {
-                put_done(&mut self.memory, self.placement);
+                put_done(&mut self.memory);
                 self.phase = Phase::Over;
             }
             Phase::Hello | Phase::Tags(_) | Phase::Over => {}

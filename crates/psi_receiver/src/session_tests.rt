@@ -4,6 +4,7 @@ ghost use Rattle.psi_spec.specs.Formulas.{item_digest};
 ghost use Rattle.psi_spec.specs.Limits.{bins_for};
 ghost use Rattle.psi_spec.specs.Placement.{IsPlacementOf};
 
+use crate::own::OwnTags;
 use crate::preparing::prepare;
 use crate::tests::hash_items;
 use crate::{LoggedReceiver, ReceiverCore, run_receiver};
@@ -12,6 +13,7 @@ use psi_cuckoo::{Placement, place};
 use psi_deal::{ReceiverDeal, deal};
 use psi_items::Items;
 use psi_log::Recorder;
+use psi_oprf::Tag;
 use std::alloc::{AllocError, Global};
 use std::process::Abort;
 use std::test::Fail;
@@ -54,6 +56,11 @@ fn shows(
     Ok(end.shown().first() == Some(&true))
 }
 
+// The own tag of the only item.
+fn only_tag(own: &OwnTags) -> Option<Tag> {
+    own.lists.iter().find_map(|list| list.tags.first().copied())
+}
+
 // Whether an item is shown by a session with a sender whose tags are all its own tag with these bits flipped.
 fn shows_own(rt: &impl Abort, alloc: Global, flip: u8) -> Result<bool, Fail> {
     let items = Items::read(alloc, b"ann\n")?;
@@ -64,7 +71,7 @@ fn shows_own(rt: &impl Abort, alloc: Global, flip: u8) -> Result<bool, Fail> {
         .ok()
         .expect(rt, "a placement");
     let made = prepare(alloc, &items, &hashed.digests, &deal, &placement)?;
-    let [a, b, c, d, ..] = *made.own.by_item.first().expect(rt, "a tag");
+    let [a, b, c, d, ..] = only_tag(&made.own).expect(rt, "a tag");
     shows(
         alloc,
         &items,

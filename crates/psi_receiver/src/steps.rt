@@ -2,24 +2,22 @@
 ghost use Rattle.std.specs.Prelude.{◌≡◌, ◌≤◌, ◌<◌, ◌+◌, ◌*◌, ℕ, List, Some, length, slice_get};
 ghost use Rattle.psi_spec.specs.Columns.{column_bytes};
 ghost use Rattle.psi_spec.specs.Frames.{column_frame, done_frame, layout};
-ghost use Rattle.psi_spec.specs.Limits.{bins_for, limit_items};
+ghost use Rattle.psi_spec.specs.Limits.{limit_items};
 ghost use Rattle.psi_spec.specs.Matrices.{column_of};
 ghost use Rattle.psi_spec.specs.Placement.{Slot};
 ghost use Rattle.psi_spec.specs.Streams.{blocks_for};
 ghost use Rattle.psi_frames.specs.Boxes.{with_added};
 ghost use Rattle.psi_receiver.specs.Marking.{IsBlock, first_in, last_in, padded_tags};
-ghost use Rattle.psi_receiver.specs.Own.{AreFindable, AreFound, AreOwnTags, IsMerging, Marked, marks_of};
+ghost use Rattle.psi_receiver.specs.Own.{AreCarriable, AreCarried, AreOwnTags, IsMerging, Marked, marks_of};
 ghost use Rattle.psi_receiver.specs.Phases.{next_phase, phase_after_column};
 ghost use Rattle.psi_receiver.specs.Running.{IsMergeable, IsMergedWith};
 ghost use Rattle.psi_receiver.specs.Script.{tags_at};
 
 use crate::blocks::mark_block;
-use crate::finding::find_shown;
+use crate::carrying::carry_marks;
 use crate::memory::Memory;
 use crate::own::OwnTags;
 use crate::phase::{Merge, Phase};
-use psi_base::bins;
-use psi_cuckoo::Placement;
 use psi_deal::ReceiverDeal;
 use psi_frames::{Frame, put, tag_at};
 
@@ -52,26 +50,17 @@ pub(crate) fn put_column(memory: &mut Memory, index: u16, count: u32) -> Phase
     }
 }
 
-/// Puts the end of the session, and finds which of the items in these slots are shown.
-pub(crate) fn put_done(memory: &mut Memory, placement: &Placement)
-    requires few { length placement.now ≤ limit_items }
+/// Puts the end of the session, and finds which of the items are shown.
+pub(crate) fn put_done(memory: &mut Memory)
     requires room { 5 ≤ memory.old.outbox.spare }
-    requires places { length memory.old.shown.items ≡ length placement.now }
-    requires findable { AreFindable (bins_for (length placement.now)) placement.now memory.old.own.by_item.items
-        (marks_of memory.old.own) }
+    requires carriable { AreCarriable (length memory.old.shown.items) memory.old.own.lists.items }
     ensures memory { memory.new ≡ record memory.old { outbox = memory.new.outbox; shown = memory.new.shown } }
     ensures outbox { memory.new.outbox ≡ with_added (layout done_frame) memory.old.outbox }
     ensures long { length memory.new.shown.items ≡ length memory.old.shown.items }
-    ensures found { AreFound (bins_for (length placement.now)) placement.now memory.old.own.by_item.items
-        (marks_of memory.old.own) memory.new.shown.items }
+    ensures carried { AreCarried memory.old.own.lists.items memory.new.shown.items }
 {
     put(&mut memory.outbox, &Frame::Done);
-    find_shown(
-        &memory.own,
-        placement,
-        bins(placement.len()),
-        &mut memory.shown,
-    );
+    carry_marks(&memory.own, &mut memory.shown);
 }
 
 /// Marks the own tags that are among those of a block, and answers what comes next.

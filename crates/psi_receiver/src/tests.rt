@@ -4,6 +4,7 @@ ghost use Rattle.psi_spec.specs.Formulas.{item_digest};
 ghost use Rattle.psi_spec.specs.Placement.{candidates_of};
 
 use crate::marking::mark;
+use crate::own::OwnTags;
 use crate::preparing::prepare;
 use psi_base::{NoMemory, bins};
 use psi_cuckoo::place;
@@ -65,6 +66,15 @@ pub(crate) fn hash_items(
     Ok(made)
 }
 
+// How many own tags the lists have.
+fn count_tags(own: &OwnTags) -> usize {
+    let mut count = 0usize;
+    for list in &own.lists {
+        count = count.saturating_add(list.items.len());
+    }
+    count
+}
+
 #[test]
 fn three_items_are_prepared(rt: HostRuntime) -> Result<(), Fail> {
     let alloc = rt.alloc();
@@ -77,7 +87,7 @@ fn three_items_are_prepared(rt: HostRuntime) -> Result<(), Fail> {
         .expect(&rt, "a placement");
     let made = prepare(alloc, &items, &hashed.digests, &deal, &placement)?;
     assert_eq!(rt; made.sent.rows(), 8);
-    assert_eq!(rt; made.own.by_item.len(), 3);
     assert_eq!(rt; made.own.lists.len(), 7);
+    assert_eq!(rt; count_tags(&made.own), 3);
     Ok(())
 }

@@ -1,4 +1,4 @@
-use Rattle.std.proofs.Common.{◌≡◌, ◌+◌, ◌∙◌, ℕ, length, ap, sym, arith}
+use Rattle.std.proofs.Common.{◌≡◌, ◌+◌, ◌∙◌, ℕ, length, ap, arith}
 use Rattle.std.proofs.lemmas.List.{with_items_is}
 use Rattle.psi_receiver.specs.Own.{own_tags}
 use Rattle.psi_receiver.proofs.Unmarking.{are_own_tags, none_marked, own_tags_from_words}
@@ -13,7 +13,7 @@ returns-clause-own c =
     let made : tags ≡ own_tags deal slots =
     c.deref.ensures.value ∙ (with_items_is c.in_ok-by_item.by_item c.item_tags.new.out long
     ∙ (c.item_tags.ensures ∙ own_tags_from_words deal c.args.rows.now slots c.requires.count c.requires.slots c.requires.words)) in
-    are_own_tags deal slots tags _ (3 + c.from.result) made (sym c.deref.ensures.value) c.in_ok-lists.ensures
+    are_own_tags deal slots tags _ (3 + c.from.result) made c.in_ok-lists.ensures
     (ap (λ (n : ℕ). 3 + n) (c.from.ensures ∙ c.stash.ensures.stash))
 
 pub returns-clause-unmarked : goal.returns-clause-unmarked

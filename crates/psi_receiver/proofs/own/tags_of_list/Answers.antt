@@ -1,8 +1,8 @@
-use Rattle.std.proofs.Common.{◌≡◌, ◌∙◌, [], true, false, get_or, refl, sym, ap, arith, eq-eqb}
+use Rattle.std.proofs.Common.{◌≡◌, ◌∙◌, true, false, sym, ap, eq-eqb}
 use Rattle.std.proofs.lemmas.Bool.{ne_eqb}
 use Rattle.psi_cuckoo.specs.Table.{slot_of}
 use Rattle.psi_receiver.specs.Slots.{is_in_list}
-use Rattle.psi_receiver.proofs.Gathering.{slot_there, tags_where-passes, tags_where-fails}
+use Rattle.psi_receiver.proofs.Gathering.{slot_there, tags_before-passes, tags_before-fails}
 use Rattle.psi_receiver.proofs.own.tags_of_list.Goals as goal
 use Rattle.psi_receiver.proofs.own.tags_of_list.Goals.{then-list_of-list+in_ok-push, else-list_of-list}
 
@@ -19,9 +19,9 @@ loop-i-preserved c =
       | then-list_of-list+in_ok-push w ↦
           let same : test slot ≡ true = eq-eqb _ list (sym c.list_of.ensures ∙ w.if-list_of-list.true) in
           ap (λ v. v.items) w.found-is ∙ (w.in_ok-push.ensures.items
-          ∙ tags_where-passes test slots tags c.loop-i.found.items i slot (get_or tags i []) (omega arith) (omega arith) there refl same c.loop-i.invariant)
+          ∙ tags_before-passes test slots tags c.loop-i.found.items i slot there same c.loop-i.invariant)
       | else-list_of-list w ↦
           let other : test slot ≡ false = ne_eqb _ list (λ e. w.if-list_of-list.false (c.list_of.ensures ∙ e)) in
           ap (λ v. v.items) w.found-is
-          ∙ tags_where-fails test slots tags c.loop-i.found.items i slot (omega arith) (omega arith) there other c.loop-i.invariant
+          ∙ tags_before-fails test slots tags c.loop-i.found.items i slot there other c.loop-i.invariant
     ]

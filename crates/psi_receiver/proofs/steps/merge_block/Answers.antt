@@ -58,10 +58,10 @@ returns-clause-own c = λ slots are.
     let n = c.args.merge.now.list in
     let within = c.requires.list in
     let many = c.requires.many in
-    own_tags_stay c.args.deal.now slots own _ n list c.mark_block-from.new.list are refl
+    own_tags_stay c.args.deal.now slots own _ n list c.mark_block-from.new.list are
     (ap (λ (k : ℕ). slice_set own.lists.items k c.mark_block-from.new.list) c.from.ensures)
     (ap (slice_get own.lists.items) (sym c.from.ensures) ∙ slice_get_read own.lists.items (length own.lists.items) c.from.result list refl (omega (arith, within, many, c.from.ensures)) c.index_mut-list.ensures.value)
-    c.mark_block-from.ensures.tags c.mark_block-from.ensures.hits
+    c.mark_block-from.ensures.tags c.mark_block-from.ensures.items c.mark_block-from.ensures.hits
 
 pub returns-clause-merged : goal.returns-clause-merged
 returns-clause-merged c =

@@ -1,8 +1,7 @@
-use Rattle.std.proofs.Common.{ℕ, List, length, refl, sym, ap, subst, ◌∙◌, inl, inr}
-use Rattle.psi_spec.specs.Limits.{bins_for}
+use Rattle.std.proofs.Common.{ℕ, List, refl, sym, ap, subst, ◌∙◌, inl, inr}
 use Rattle.psi_receiver.specs.declared.phase.Phase.TheVariants as phase
 use Rattle.psi_receiver.specs.Running.{HasFound, IsSession, ReceiverState, rest_in, state_of}
-use Rattle.psi_receiver.proofs.Holding.{as_many_slots, few_slots, session_after_column, session_after_end, session_finds, session_has_found}
+use Rattle.psi_receiver.proofs.Holding.{session_after_column, session_after_end, session_carries, session_has_found}
 use Rattle.psi_receiver.proofs.session.Session.refill.Goals as goal
 
 pub returns-then-not-is_empty-clause-found : goal.returns-then-not-is_empty-clause-found
@@ -21,24 +20,15 @@ invariant_of-self c =
     (session_after_column s.deal.now s.items.now s.placement.now s.memory c.put_column-self-inside.new.memory c.in-Columns.next c.in-Columns.count _
     (subst (session s.memory) c.in-Columns.is c.self.invariant) put.memory put.outbox)
 
-pub put_done-requires-clause-few : goal.put_done-requires-clause-few
-put_done-requires-clause-few c = let s = c.self.inside in few_slots s.deal.now s.items.now s.placement.now s.memory s.phase c.self.invariant
-
-pub put_done-requires-clause-places : goal.put_done-requires-clause-places
-put_done-requires-clause-places c =
-    let s = c.self.inside in
-    let is = c.self.invariant in
-    is.holds.shown ∙ sym (as_many_slots s.deal.now.stash (bins_for (length s.items.now)) s.deal.now.key s.items.now s.placement.now is.placed)
-
-pub put_done-requires-clause-findable : goal.put_done-requires-clause-findable
-put_done-requires-clause-findable c = let s = c.self.inside in session_finds s.deal.now s.items.now s.placement.now s.memory s.phase c.self.invariant
+pub put_done-requires-clause-carriable : goal.put_done-requires-clause-carriable
+put_done-requires-clause-carriable c = let s = c.self.inside in session_carries s.deal.now s.items.now s.placement.now s.memory s.phase c.self.invariant
 
 pub invariant_of-self-in-Done : goal.invariant_of-self-in-Done
 invariant_of-self-in-Done c =
     let s = c.self.inside in
     let done = c.put_done.ensures in
     session_after_end s.deal.now s.items.now s.placement.now s.memory c.put_done.new.memory
-    (subst (IsSession s.deal.now s.items.now s.placement.now s.memory) c.in-Done.is c.self.invariant) done.memory done.outbox done.long done.found
+    (subst (IsSession s.deal.now s.items.now s.placement.now s.memory) c.in-Done.is c.self.invariant) done.memory done.outbox done.long done.carried
 
 pub returns-in-Done-clause-found : goal.returns-in-Done-clause-found
 returns-in-Done-clause-found c = λ owes next.
@@ -46,7 +36,7 @@ returns-in-Done-clause-found c = λ owes next.
     let done = c.put_done.ensures in
     session_has_found s.deal.now s.items.now s.placement.now c.put_done.new.memory phase.Over
     (session_after_end s.deal.now s.items.now s.placement.now s.memory c.put_done.new.memory
-    (subst (IsSession s.deal.now s.items.now s.placement.now s.memory) c.in-Done.is c.self.invariant) done.memory done.outbox done.long done.found) owes next
+    (subst (IsSession s.deal.now s.items.now s.placement.now s.memory) c.in-Done.is c.self.invariant) done.memory done.outbox done.long done.carried) owes next
 
 pub returns-in-Hello : goal.returns-in-Hello
 returns-in-Hello c =
