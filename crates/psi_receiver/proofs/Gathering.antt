@@ -1,5 +1,5 @@
 -- Lists that are gathered a part at a time.
-use Rattle.std.proofs.Common.{◌≡◌, ◌+◌, ◌-◌, ◌<◌, ◌≤◌, ℕ, zero, suc, Bool, true, false, cond, List, [], ◌∷◌, ◌++◌, length, map, filter, min, take, drop, set, get_or, slice_get, Some, None, IsSome, All, rules, refl, sym, ap, ap₂, subst, ◌∙◌, arith, length-append}
+use Rattle.std.proofs.Common.{◌≡◌, ◌+◌, ◌-◌, ◌<◌, ◌≤◌, ℕ, Bool, true, false, cond, List, [], ◌∷◌, ◌++◌, length, map, filter, min, take, drop, set, get_or, slice_get, Some, None, IsSome, All, rules, refl, sym, ap, ap₂, subst, ◌∙◌, arith, length-append}
 use Rattle.std.specs.Simd.Lanes.{zip2}
 use Rattle.std.specs.List.{range_with_len}
 use Rattle.std.proofs.lemmas.List.{length-take-le, take_more, take_more_set, take_min, take-take, drop-take, take-append-drop, length-drop, get_or-drop, get_or-map, map-append, append-nil}

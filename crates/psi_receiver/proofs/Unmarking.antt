@@ -1,13 +1,13 @@
 -- Own tags as their lists are made, of which none is marked.
-use Rattle.std.proofs.Common.{◌≡◌, ◌+◌, ◌<◌, ◌∙◌, ℕ, zero, suc, Bool, true, false, cond, is_lt, nat_cmp, Ordering, Less, Equal, Greater, List, [], ◌∷◌, ◌++◌, length, map, filter, replicate, get_or, slice_get, Some, Contains, IsPermutation, IsSorted, refl, sym, ap, ap₂, subst, inl, inr, ◌⊎◌, arith}
+use Rattle.std.proofs.Common.{◌≡◌, ◌+◌, ◌<◌, ◌∙◌, ℕ, zero, suc, Bool, true, false, cond, is_lt, nat_cmp, Ordering, Less, Equal, Greater, List, [], ◌∷◌, ◌++◌, length, map, filter, replicate, get_or, slice_get, Some, Contains, IsSorted, refl, sym, ap, ap₂, subst, inl, inr, ◌⊎◌, arith}
 use Rattle.std.specs.Cmp.Lexicographic.{slice_cmp}
 use Rattle.std.specs.List.{range_with_len}
 use Rattle.std.specs.Ordering.{ordering_then}
 use Rattle.std.proofs.lemmas.Bool.{eq-eqb, eqb-true}
-use Rattle.std.proofs.lemmas.List.{get_or_default, get_or-map, length-append, length-map, length-replicate}
+use Rattle.std.proofs.lemmas.List.{get_or-map, length-append, length-map, length-replicate}
 use Rattle.std.proofs.lemmas.List.Elements.{Contains-get_or}
 use Rattle.std.proofs.lemmas.List.FromFn.{get_or-range_with_len, length-range_with_len}
-use Rattle.std.proofs.lemmas.List.Sorted.{Contains-permutation, IsPermutation-sym, length_permutation}
+use Rattle.std.proofs.lemmas.List.Sorted.{Contains-permutation, IsPermutation-sym}
 use Rattle.std.proofs.lemmas.Option.{get_or_from_slice_get, none-some, same_Some, slice_get-get_or, slice_get_within}
 use Rattle.psi_spec.specs.Columns.{row_of}
 use Rattle.psi_spec.specs.Deals.{ReceiverDeal, zero_columns}
@@ -18,7 +18,7 @@ use Rattle.psi_spec.specs.Limits.{bins_for, rows_for}
 use Rattle.psi_spec.specs.Placement.{Slot}
 use Rattle.psi_spec.specs.Rising.{rising}
 use Rattle.psi_spec.proofs.Lists.{Contains-filter, Contains-from_filter, Contains-from_map, Contains-map}
-use Rattle.psi_receiver.specs.Own.{AreItemsIn, AreOwnTags, AreUnmarked, HasOwnTag, IsMarkedList, Marked, marked_of, own_tag_of, own_tags, own_tags_in, slots_in}
+use Rattle.psi_receiver.specs.Own.{AreItemsIn, AreOwnTags, AreUnmarked, IsMarkedList, Marked, marked_of, own_tag_of, own_tags, own_tags_in}
 use Rattle.psi_receiver.specs.Slots.{AreWithin, is_in_list, tags_with_items, tag_of_word, tags_where}
 use Rattle.psi_receiver.specs.Unmarked.{AreUnmarkedLists, IsUnmarkedList, tags_for_list}
 use Rattle.psi_receiver.specs.declared.own.OwnList.{OwnList}

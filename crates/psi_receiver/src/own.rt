@@ -92,8 +92,8 @@ fn item_tags(deal: &ReceiverDeal, placement: &Placement, rows: &Rows, out: &mut 
     }
 }
 
-/// The number of the list in which the tag of a slot is looked up, where there are so many bins.
-pub(crate) fn list_of(slot: Slot, bins: u32) -> usize
+// The number of the list in which the tag of a slot is looked up, where there are so many bins.
+fn list_of(slot: Slot, bins: u32) -> usize
     ensures { result ≡ list_of_slot bins (slot_of slot) }
 {
     if slot.index == 0 {

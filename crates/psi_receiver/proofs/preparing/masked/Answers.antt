@@ -1,9 +1,8 @@
-use Rattle.std.proofs.Common.{◌≡◌, ◌<◌, ◌∙◌, ℕ, List, [], get_or, length, sym, ap, ap₂, arith}
+use Rattle.std.proofs.Common.{◌≡◌, ◌∙◌, ℕ, List, [], get_or, length, sym, ap, ap₂, arith}
 use Rattle.psi_spec.specs.Bits.{xor}
-use Rattle.psi_spec.specs.Columns.{row_of}
 use Rattle.psi_spec.specs.ColumnSets.{ColumnSets, masked_columns}
 use Rattle.psi_spec.specs.Deals.{zero_columns, one_columns}
-use Rattle.psi_spec.specs.Matrices.{Matrix, column_of}
+use Rattle.psi_spec.specs.Matrices.{Matrix}
 use Rattle.psi_spec.specs.Streams.{dealt_sets}
 use Rattle.psi_oprf.proofs.Masks.{all_masked}
 use Rattle.psi_receiver.proofs.preparing.masked.Goals as goal

@@ -1,4 +1,4 @@
-use Rattle.std.proofs.Common.{◌≡◌, ◌+◌, ◌∙◌, ◌++◌, ℕ, List, [], take, sym, ap, ap₂, arith, append_assoc}
+use Rattle.std.proofs.Common.{◌≡◌, ◌+◌, ◌∙◌, ◌++◌, ℕ, List, take, sym, ap, ap₂, arith, append_assoc}
 use Rattle.psi_spec.specs.Frames.{column_frame, layout}
 use Rattle.psi_spec.specs.Matrices.{IsMatrix, column_of}
 use Rattle.psi_spec.specs.Streams.{column_frames}
