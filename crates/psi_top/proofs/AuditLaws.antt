@@ -1,8 +1,8 @@
 -- The promises of `audit` in its own words.
-use Rattle.std.proofs.Common.{◌≡◌, ◌≤◌, ◌<◌, inl, inr, ℕ, false, List, [], ◌∷◌, length, Some, None, Ok, Err, slice_get, refl, sym, ap, ◌∙◌, subst, arith, zero, suc}
+use Rattle.std.proofs.Common.{◌≡◌, ◌<◌, inl, inr, ℕ, false, List, [], ◌∷◌, length, Some, None, Ok, Err, slice_get, refl, sym, ap, ◌∙◌, subst, arith, zero, suc}
 use Rattle.std.specs.declared.result.Result.{Result}
 use Rattle.psi_spec.specs.DealFiles.{receiver_bytes, sender_bytes}
-use Rattle.psi_spec.specs.Deals.{ReceiverDeal, SenderDeal, IsReceiverDeal, IsSenderDeal}
+use Rattle.psi_spec.specs.Deals.{ReceiverDeal, SenderDeal}
 use Rattle.psi_spec.specs.Items.{items_of}
 use Rattle.psi_spec.specs.Limits.{file_limit, record_limit}
 use Rattle.psi_spec.specs.Placement.{Slot}
@@ -13,18 +13,17 @@ use Rattle.psi_log.proofs.Faultless.{parts_from_none}
 use Rattle.psi_base.specs.Outside.{Known, Outside, Files, printed_too}
 use Rattle.psi_log.specs.BadRecords.{bad_record}
 use Rattle.psi_top.specs.Audit.{audit_record, audit_session, audit_text, audit_tree, findings_of}
-use Rattle.psi_top.specs.AuditPromises.{AfterDeal, AfterDeals, AfterList, AfterLists, AuditAnswers, AuditCompletes, CanAudit, Evidence, HasEvidence, IsConsistent, IsDueFile, IsOfAudit, OnEvidence, findings_in, limit_of, text_in}
+use Rattle.psi_top.specs.AuditPromises.{AuditAnswers, AuditCompletes, CanAudit, Evidence, HasEvidence, IsConsistent, IsDueFile, IsOfAudit, findings_in, limit_of}
 use Rattle.psi_top.specs.Commands.{Answers}
 use Rattle.psi_top.specs.Due.{told}
 use Rattle.psi_top.specs.Files.{items_in, reads_items, reads_receiver, reads_record, reads_sender, receiver_in, record_in, sender_in}
 use Rattle.psi_top.specs.JudgedFiles.{HasItems, HasReceiverDeal, HasRecord, HasSenderDeal}
 use Rattle.psi_top.specs.Promises.{IsAnswered, IsOfEffect, IsOfEnd, IsReady, IsSilent, IsUnread, Leaves}
-use Rattle.psi_top.specs.Tree.{Effect, says, Tree, decides, ends, End}
-use Rattle.psi_top.specs.Walk.{IsVerdict}
+use Rattle.psi_top.specs.Tree.{Effect, says, decides, ends, End}
 use Rattle.psi_top.specs.declared.findings.Findings.{Findings}
-use Rattle.psi_top.specs.declared.form.Command.TheVariants.{Audit}
-use Rattle.psi_top.specs.declared.status.Status.{Status}
-use Rattle.psi_top.specs.declared.status.Status.TheVariants as status
+use Rattle.psi_words.specs.declared.form.Command.TheVariants.{Audit}
+use Rattle.psi_texts.specs.declared.status.Status.{Status}
+use Rattle.psi_texts.specs.declared.status.Status.TheVariants as status
 use Rattle.psi_top.proofs.Answered.{follows_answers}
 use Rattle.psi_top.proofs.JudgedFiles.{AtFile, unread, wanting, refused, taken_on, answered_items, answered_receiver, answered_record, answered_sender, has_bad_line, has_bad_receiver, has_bad_record, has_bad_sender, has_items, has_receiver, has_record, has_sender, items_bad, left_decides, left_items, left_receiver, left_record, left_sender, receiver_bad, record_bad, sender_bad}
 use Rattle.psi_top.proofs.Laws.{answers_done, answers_through, follows_told}

@@ -1,6 +1,5 @@
 -- The lines of collisions, printed one after another.
 use Rattle.std.proofs.Common.{◌≡◌, ◌+◌, ◌≤◌, ◌∙◌, ℕ, zero, suc, List, [], ◌∷◌, ◌++◌, length, take, drop, Err, refl, sym, ap, subst, append_assoc}
-use Rattle.std.specs.declared.result.Result.{Result}
 use Rattle.std.proofs.lemmas.List.{append-nil, take_all}
 use Rattle.psi_base.specs.Outside.{Outside, PrintsAll, printed_too}
 use Rattle.psi_base.specs.declared.faults.Fault.{Fault}

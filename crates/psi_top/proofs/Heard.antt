@@ -17,8 +17,8 @@ use Rattle.psi_receiver.specs.Receiving.{Received}
 use Rattle.psi_top.specs.Receive.{IsHeard, marked, session_record, shown_text, shows_and_keeps}
 use Rattle.psi_top.specs.Tree.{Effect, says, puts, Placing, Tree, places, talks, ends, End, ended, stopped}
 use Rattle.psi_top.specs.Walk.{Follows, Makes, Places, Runs, StepsTalk, status_of}
-use Rattle.psi_top.specs.declared.status.Status.{Status}
-use Rattle.psi_top.specs.declared.status.Status.TheVariants as status
+use Rattle.psi_texts.specs.declared.status.Status.{Status}
+use Rattle.psi_texts.specs.declared.status.Status.TheVariants as status
 use Rattle.psi_top.proofs.Marks.{length-hits_of, marked_hits}
 use Rattle.psi_top.proofs.StreamLists.{lists_of_stream}
 use Rattle.psi_top.proofs.Walks.{ends_done, places_on, talks_on}

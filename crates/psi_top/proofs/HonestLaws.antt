@@ -16,7 +16,7 @@ use Rattle.psi_receiver.proofs.Hearing.{width_of}
 use Rattle.psi_top.specs.Commands.{Answers}
 use Rattle.psi_top.specs.ReceivePromises.{IsHonest, ReceiveFinds, ShowsCommonItems, hit_lines}
 use Rattle.psi_top.specs.Tree.{End}
-use Rattle.psi_top.specs.declared.form.Command.TheVariants.{Receive}
+use Rattle.psi_words.specs.declared.form.Command.TheVariants.{Receive}
 use Rattle.psi_top.proofs.Laws.{answers_done}
 use Rattle.psi_top.proofs.ReceiveLaws.{deal_of, receive_leaves}
 

@@ -20,8 +20,8 @@ use Rattle.psi_top.specs.Files.{items_in, judged_items, judged_old, judged_recei
 use Rattle.psi_top.specs.JudgedFiles.{HasBadLine, HasBadOldDeal, HasBadReceiverDeal, HasBadRecord, HasBadSenderDeal, HasItems, HasOldDeal, HasReceiverDeal, HasRecord, HasSenderDeal}
 use Rattle.psi_top.specs.Promises.{IsAnswered, IsSilent, IsUnread, Leaves, WasRead}
 use Rattle.psi_top.specs.Tree.{Tree, reads, decides, End}
-use Rattle.psi_top.specs.declared.status.Status.{Status}
-use Rattle.psi_top.specs.declared.status.Status.TheVariants as status
+use Rattle.psi_texts.specs.declared.status.Status.{Status}
+use Rattle.psi_texts.specs.declared.status.Status.TheVariants as status
 
 -- ---- any judgement
 

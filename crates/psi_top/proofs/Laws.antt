@@ -3,19 +3,19 @@ use Rattle.std.proofs.Common.{◌≡◌, ◌==◌, ◌⊎◌, inl, inr, ℕ, Boo
 use Rattle.std.proofs.lemmas.Bool.Decides.{nat_tests}
 use Rattle.psi_spec.specs.CrowdedLists.{IsCrowded, touched_by}
 use Rattle.psi_spec.specs.Placement.{Slot, IsPlacement}
-use Rattle.psi_top.specs.Words.{bad_word}
+use Rattle.psi_words.specs.Words.{bad_word}
 use Rattle.psi_spec.proofs.Crowding.{no_placement}
 use Rattle.psi_base.specs.Outside.{Known, Outside, Rose}
 use Rattle.psi_top.specs.Commands.{Answers, AnswersBy, tree_of}
 use Rattle.psi_frames.specs.Dialogue.{Reading, talked}
 use Rattle.psi_top.specs.Due.{Contents, Due, lacks, long, refusal, unplaced, reached, due, told, without, judged, heard}
-use Rattle.psi_top.specs.Form.{command_of}
+use Rattle.psi_words.specs.Form.{command_of}
 use Rattle.psi_top.specs.Promises.{Completes, CountsBy, DoneLeaves, IsAnswered, IsBadWords, IsCalm, IsCounted, IsDue, IsOfCommand, IsReady, IsStoppedAt, IsStoppedBefore, IsWhatIsDue, Leaves, OnTold, RunsThrough, StandsAt, StandsBy}
 use Rattle.psi_top.specs.Tree.{Effect, says, puts, Placing, Tree, reads, refuses, places, opens, talks, ends, End}
 use Rattle.psi_top.specs.Walk.{IsVerdict, Runs}
-use Rattle.psi_top.specs.declared.form.Command.{Command}
-use Rattle.psi_top.specs.declared.status.Status.{Status}
-use Rattle.psi_top.specs.declared.status.Status.TheVariants as status
+use Rattle.psi_words.specs.declared.form.Command.{Command}
+use Rattle.psi_texts.specs.declared.status.Status.{Status}
+use Rattle.psi_texts.specs.declared.status.Status.TheVariants as status
 use Rattle.psi_top.proofs.Answered.{follows_answers}
 use Rattle.psi_top.proofs.Counted.{follows_counted}
 use Rattle.psi_top.proofs.Left.{follows_leaves}

@@ -4,22 +4,17 @@ pub mod CollisionLines
 pub mod ColumnFiles
 pub mod Counted
 pub mod DealLaws
-pub mod DealWords
 pub mod Digests
 pub mod Elements
-pub mod Forms
 pub mod Heard
 pub mod HonestLaws
 pub mod JudgedFiles
 pub mod Laws
 pub mod Left
 pub mod LocalLaws
-pub mod LocalWords
 pub mod MadeLengths
 pub mod MakeLaws
-pub mod MakeWords
 pub mod Marks
-pub mod NamedWords
 pub mod Placed
 pub mod Played
 pub mod ReceiveLaws
@@ -37,4 +32,3 @@ pub mod Verdicts
 pub mod Walked
 pub mod Walks
 pub mod Wired
-pub mod WordValues

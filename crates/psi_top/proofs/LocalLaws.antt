@@ -10,7 +10,7 @@ use Rattle.psi_spec.specs.Placement.{Slot, IsPlacementOf}
 use Rattle.psi_spec.specs.Records.{record_file}
 use Rattle.psi_spec.specs.SessionLaws.{FindsShown}
 use Rattle.psi_spec.specs.Texts.{lines_text}
-use Rattle.psi_top.specs.Words.{number_of, seed_of, stash_of, tag_length_of, word_at}
+use Rattle.psi_words.specs.Words.{number_of, seed_of, stash_of, tag_length_of, word_at}
 use Rattle.psi_spec.proofs.Dealing.{dealt_are_pairs, dealt_receiver_sizes, dealt_sender_sizes, length-placement}
 use Rattle.psi_spec.proofs.Finding.{pairs_find_shown}
 use Rattle.psi_spec.proofs.Placing.{items_of-placed_of}
@@ -25,9 +25,9 @@ use Rattle.psi_top.specs.Promises.{IsAnswered, IsOfEffect, IsOfEnd, IsReady, IsS
 use Rattle.psi_top.specs.Receive.{placing_of}
 use Rattle.psi_top.specs.Tree.{Effect, says, puts, End}
 use Rattle.psi_top.specs.Walk.{IsNotPlaced}
-use Rattle.psi_top.specs.declared.form.Command.TheVariants.{Local}
-use Rattle.psi_top.specs.declared.status.Status.{Status}
-use Rattle.psi_top.specs.declared.status.Status.TheVariants as status
+use Rattle.psi_words.specs.declared.form.Command.TheVariants.{Local}
+use Rattle.psi_texts.specs.declared.status.Status.{Status}
+use Rattle.psi_texts.specs.declared.status.Status.TheVariants as status
 use Rattle.psi_top.proofs.Answered.{follows_answers}
 use Rattle.psi_top.proofs.JudgedFiles.{AtFile, unread, wanting, refused, taken_on, answered_items, has_bad_line, has_items, items_bad, left_items}
 use Rattle.psi_top.proofs.Laws.{answers_done, answers_through, follows_told}

@@ -3,13 +3,13 @@ use Rattle.std.proofs.Common.{◌≡◌, ℕ, Bool, true, List, [], ◌∷◌, l
 use Rattle.std.specs.Option.{option_map, IfSome}
 use Rattle.std.specs.declared.result.Result.{Result}
 use Rattle.psi_spec.specs.Placement.{Slot, IsPlacement}
-use Rattle.psi_top.specs.Words.{word_at}
+use Rattle.psi_words.specs.Words.{word_at}
 use Rattle.psi_base.specs.Outside.{Known, Outside, Files, Writes, PrintsAll, Opens}
 use Rattle.psi_frames.specs.Dialogue.{Dialogue, ReadSo, Talks, good, talked}
 use Rattle.psi_top.specs.Due.{Contents, told}
 use Rattle.psi_top.specs.Tree.{Effect, says, puts, Placing, Tree, reads, refuses, places, opens, talks, ends, End, stopped}
 use Rattle.psi_top.specs.Walk.{AtCall, AtPlace, AtRefusal, AtEnd, starved, cut, passed, hungry, crowded, placed, given_up, refused, gave_up, all_done, Does, Follows, Gives, read_status, write_status, print_status, open_status, talk_status}
-use Rattle.psi_top.specs.declared.status.Status.{Status}
+use Rattle.psi_texts.specs.declared.status.Status.{Status}
 use Rattle.psi_top.proofs.Walked.{told_file}
 
 -- the slots that a run carries are placements of the sets that its tree places, in their order

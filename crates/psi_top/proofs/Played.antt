@@ -28,7 +28,7 @@ use Rattle.psi_top.specs.Transcript.{IsPlayed, WentOn, front_for, log_of, writes
 use Rattle.psi_top.specs.Tree.{Effect, says, puts, closed, ends, with_slots}
 use Rattle.psi_top.specs.Walk.{Does, Follows, Makes, MakesAll, Places, Runs, all_done}
 use Rattle.psi_top.specs.declared.playing.PlayedSession.{PlayedSession}
-use Rattle.psi_top.specs.declared.status.Status.{Status}
+use Rattle.psi_texts.specs.declared.status.Status.{Status}
 use Rattle.psi_top.specs.declared.transcript.SessionTranscript.{SessionTranscript}
 use Rattle.psi_top.proofs.LocalLaws.{local_finds}
 use Rattle.psi_top.proofs.Marks.{length-hits_of, marked_hits}

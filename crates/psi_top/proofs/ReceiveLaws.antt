@@ -11,7 +11,7 @@ use Rattle.psi_spec.specs.Limits.{bins_for, file_limit}
 use Rattle.psi_spec.specs.Meeting.{placed_of}
 use Rattle.psi_spec.specs.Placement.{Slot, IsPlacement, IsPlacementOf}
 use Rattle.psi_spec.specs.Texts.{lines_text}
-use Rattle.psi_top.specs.Words.{word_at}
+use Rattle.psi_words.specs.Words.{word_at}
 use Rattle.psi_spec.proofs.DealFiles.{length-receiver_bytes, receiver_files_read_back}
 use Rattle.psi_spec.proofs.StreamSizes.{length-framed, length-hello_payload}
 use Rattle.psi_base.specs.Outside.{Known, Outside, Files, Rose, Starved, printed_too, written}
@@ -34,9 +34,9 @@ use Rattle.psi_top.specs.ReceivePromises.{AfterSession, CanReceive, IsAtHelloOrC
 use Rattle.psi_top.specs.SendPromises.{AfterItems, opened}
 use Rattle.psi_top.specs.Tree.{Effect, says, puts, places, talks, ends, End, stopped, with_slots}
 use Rattle.psi_top.specs.Walk.{IsNotPlaced}
-use Rattle.psi_top.specs.declared.form.Command.TheVariants.{Receive}
-use Rattle.psi_top.specs.declared.status.Status.{Status}
-use Rattle.psi_top.specs.declared.status.Status.TheVariants as status
+use Rattle.psi_words.specs.declared.form.Command.TheVariants.{Receive}
+use Rattle.psi_texts.specs.declared.status.Status.{Status}
+use Rattle.psi_texts.specs.declared.status.Status.TheVariants as status
 use Rattle.psi_top.proofs.Answered.{follows_answers}
 use Rattle.psi_top.proofs.JudgedFiles.{AtFile, unread, wanting, refused, taken_on, answered_items, answered_receiver, has_bad_line, has_bad_receiver, has_items, has_receiver, items_bad, left_items, left_receiver, receiver_bad}
 use Rattle.psi_top.proofs.Laws.{answers_done, answers_through, follows_told}

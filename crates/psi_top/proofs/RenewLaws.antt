@@ -16,9 +16,9 @@ use Rattle.psi_top.specs.Promises.{IsAnswered, IsOfEffect, IsOfEnd, IsReady, IsS
 use Rattle.psi_top.specs.Renew.{renew_tree}
 use Rattle.psi_top.specs.RenewPromises.{CanRenew, IsOfRenew, RenewAnswers, RenewCompletes, RenewWrites, WroteRenewed}
 use Rattle.psi_top.specs.Tree.{Effect, puts, ends, End}
-use Rattle.psi_top.specs.declared.form.Command.TheVariants.{Renew}
-use Rattle.psi_top.specs.declared.status.Status.{Status}
-use Rattle.psi_top.specs.declared.status.Status.TheVariants as status
+use Rattle.psi_words.specs.declared.form.Command.TheVariants.{Renew}
+use Rattle.psi_texts.specs.declared.status.Status.{Status}
+use Rattle.psi_texts.specs.declared.status.Status.TheVariants as status
 use Rattle.psi_top.proofs.Answered.{follows_answers}
 use Rattle.psi_top.proofs.JudgedFiles.{AtFile, unread, wanting, refused, taken_on, answered_old, has_bad_old, has_old, left_old, old_bad}
 use Rattle.psi_top.proofs.Laws.{answers_done, answers_through, follows_told}

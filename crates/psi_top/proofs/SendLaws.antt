@@ -26,9 +26,9 @@ use Rattle.psi_top.specs.Promises.{IsAnswered, IsNotTalked, IsOfEnd, IsReady, Is
 use Rattle.psi_top.specs.Send.{send_rest, send_tree}
 use Rattle.psi_top.specs.SendPromises.{AfterItems, CanServe, IsEarlyOrCounted, IsOfSend, SendAnswers, SendServes, Served, WithFiles, opened}
 use Rattle.psi_top.specs.Tree.{Effect, Tree, decides, talks, ends, End}
-use Rattle.psi_top.specs.declared.form.Command.TheVariants.{Send}
-use Rattle.psi_top.specs.declared.status.Status.{Status}
-use Rattle.psi_top.specs.declared.status.Status.TheVariants as status
+use Rattle.psi_words.specs.declared.form.Command.TheVariants.{Send}
+use Rattle.psi_texts.specs.declared.status.Status.{Status}
+use Rattle.psi_texts.specs.declared.status.Status.TheVariants as status
 use Rattle.psi_spec.proofs.DealFiles.{length-sender_bytes, sender_files_read_back}
 use Rattle.psi_deal.proofs.Faultless.{good_from_none, good_sender, none_from_good, sender_file_is_good}
 use Rattle.psi_top.specs.Due.{Contents, told}

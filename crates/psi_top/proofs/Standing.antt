@@ -1,7 +1,7 @@
 -- What stands of what was to be printed and written.
 use Rattle.std.proofs.Common.{◌≡◌, inl, inr, Bool, ℕ, suc, List, [], ◌∷◌, take, Option, Some, None, Ok, Err, refl, sym, ap, ◌∙◌, subst, arith, slice_get}
 use Rattle.std.specs.declared.result.Result.{Result}
-use Rattle.psi_top.specs.Words.{word_at}
+use Rattle.psi_words.specs.Words.{word_at}
 use Rattle.psi_base.specs.Outside.{Outside, Files, Writes, PrintsAll, written, partly_written}
 use Rattle.psi_base.specs.declared.faults.Fault.{Fault}
 use Rattle.psi_base.specs.declared.faults.Fault.TheVariants as fault
@@ -9,8 +9,8 @@ use Rattle.psi_top.specs.Due.{after_effect, after_part}
 use Rattle.psi_top.specs.Promises.{IsStoppedAt, Stands}
 use Rattle.psi_top.specs.Tree.{Effect, says, puts, End, stopped}
 use Rattle.psi_top.specs.Walk.{AtCall, AtEnd, starved, cut, passed, gave_up, all_done, Does, write_status, print_status}
-use Rattle.psi_top.specs.declared.status.Status.{Status}
-use Rattle.psi_top.specs.declared.status.Status.TheVariants as status
+use Rattle.psi_texts.specs.declared.status.Status.{Status}
+use Rattle.psi_texts.specs.declared.status.Status.TheVariants as status
 
 -- nothing was begun
 not_begun : (words : List (List ℕ)) (effects : List Effect) (mid : Outside) → IsStoppedAt mid.steady (slice_get effects 0) status.NoMemory

@@ -10,9 +10,9 @@ use Rattle.psi_top.specs.Tree.{Effect, says, End}
 use Rattle.psi_top.specs.Trial.{trial_items, trial_receiver, trial_text, trial_tree}
 use Rattle.psi_top.specs.TrialPromises.{IsOfTrial, IsPlacedForTrial, IsPlacedTrial, RanTrial, TrialAnswers, TrialCompletes, TrialPrints}
 use Rattle.psi_top.specs.Walk.{IsNotPlaced}
-use Rattle.psi_top.specs.declared.form.Command.TheVariants.{Trial}
-use Rattle.psi_top.specs.declared.status.Status.{Status}
-use Rattle.psi_top.specs.declared.status.Status.TheVariants as status
+use Rattle.psi_words.specs.declared.form.Command.TheVariants.{Trial}
+use Rattle.psi_texts.specs.declared.status.Status.{Status}
+use Rattle.psi_texts.specs.declared.status.Status.TheVariants as status
 use Rattle.psi_top.proofs.Answered.{follows_answers}
 use Rattle.psi_top.proofs.Laws.{answers_done, answers_through, follows_told}
 use Rattle.psi_top.proofs.ReceiveLaws.{is_placement}

@@ -21,14 +21,14 @@ use Rattle.psi_spec.proofs.Placing.{length-placed_of}
 use Rattle.psi_spec.proofs.StreamSizes.{receiver_streams_have_sizes, sender_streams_have_sizes}
 use Rattle.psi_base.specs.Outside.{Known, Outside}
 use Rattle.psi_receiver.specs.Laws.{own_stream}
-use Rattle.psi_top.specs.Words.{seed_of, word_at}
+use Rattle.psi_words.specs.Words.{seed_of, word_at}
 use Rattle.psi_top.specs.Receive.{marked, placing_of}
 use Rattle.psi_top.specs.Transcript.{IsPlayed, receiver_size, sender_size}
 use Rattle.psi_top.specs.Tree.{says, closed, ends, with_slots}
 use Rattle.psi_top.specs.Trial.{measured, summary_text, trial_receiver, trial_rest, trial_sender, trial_session, trial_set, trial_setup, trial_summary, trial_text, trial_to_receiver, trial_to_sender}
 use Rattle.psi_top.specs.Walk.{Places, Runs}
 use Rattle.psi_top.specs.declared.playing.PlayedSession.{PlayedSession}
-use Rattle.psi_top.specs.declared.status.Status.{Status}
+use Rattle.psi_texts.specs.declared.status.Status.{Status}
 use Rattle.psi_top.proofs.Played.{length-played, played_items}
 use Rattle.psi_top.proofs.Walks.{places_on}
 

@@ -18,9 +18,9 @@ use Rattle.psi_top.specs.Tree.{Effect, puts, decides, End}
 use Rattle.psi_top.specs.Twin.{twin_first, twin_second, twin_sets, twin_tree, twins_in}
 use Rattle.psi_top.specs.TwinPromises.{AreTwins, CanTwin, HasTwins, HidTwins, IsDueInput, IsOfTwin, IsPlacedWith, TwinAnswers, TwinCompletes, TwinHides, Twins, WerePlaced}
 use Rattle.psi_top.specs.Walk.{IsNotPlaced}
-use Rattle.psi_top.specs.declared.form.Command.TheVariants.{Twin}
-use Rattle.psi_top.specs.declared.status.Status.{Status}
-use Rattle.psi_top.specs.declared.status.Status.TheVariants as status
+use Rattle.psi_words.specs.declared.form.Command.TheVariants.{Twin}
+use Rattle.psi_texts.specs.declared.status.Status.{Status}
+use Rattle.psi_texts.specs.declared.status.Status.TheVariants as status
 use Rattle.psi_top.proofs.Answered.{follows_answers}
 use Rattle.psi_top.proofs.JudgedFiles.{AtFile, unread, wanting, refused, taken_on, answered_items, answered_receiver, answered_sender, has_bad_line, has_bad_receiver, has_bad_sender, has_items, has_receiver, has_sender, items_bad, left_decides, left_items, left_receiver, left_sender, receiver_bad, sender_bad}
 use Rattle.psi_top.proofs.Laws.{answers_done, answers_through, follows_told}

@@ -12,8 +12,8 @@ use Rattle.psi_top.specs.Tree.{Placing, Tree, ends, places, puts, stopped, with_
 use Rattle.psi_top.specs.Twin.{dealt_for, files_of_words, twin_second}
 use Rattle.psi_top.specs.TwinPromises.{IsPlacedWith}
 use Rattle.psi_top.specs.Walk.{Makes, Places, Runs}
-use Rattle.psi_top.specs.declared.status.Status.{Status}
-use Rattle.psi_top.specs.declared.status.Status.TheVariants as status
+use Rattle.psi_texts.specs.declared.status.Status.{Status}
+use Rattle.psi_texts.specs.declared.status.Status.TheVariants as status
 use Rattle.psi_top.proofs.TwinVerdicts.{length-first_set}
 use Rattle.psi_top.proofs.Walks.{ends_done, places_on}
 

@@ -18,8 +18,8 @@ use Rattle.psi_deal.specs.declared.errors.DealField.{DealField}
 use Rattle.psi_deal.proofs.Differing.{none_from_pair, pair_from_none}
 use Rattle.psi_top.specs.Twin.{pair_in, twins_in}
 use Rattle.psi_top.specs.TwinPromises.{AreTwins, IsPlacedWith, Twins, changed_columns, dealt_columns, first_set, second_set}
-use Rattle.psi_top.specs.declared.status.Status.{Status}
-use Rattle.psi_top.specs.declared.status.Status.TheVariants as status
+use Rattle.psi_texts.specs.declared.status.Status.{Status}
+use Rattle.psi_texts.specs.declared.status.Status.TheVariants as status
 
 -- ---- the judgement
 

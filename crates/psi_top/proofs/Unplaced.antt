@@ -9,7 +9,7 @@ use Rattle.psi_deal.specs.declared.old_files.OldDeal.{OldDeal}
 use Rattle.psi_top.specs.Files.{items_in, old_deal_in, reads_items, reads_old, reads_sender, sender_in}
 use Rattle.psi_top.specs.Promises.{IsAnswered}
 use Rattle.psi_top.specs.Tree.{Tree, reads, refuses, places, opens, talks, ends, decides}
-use Rattle.psi_top.specs.declared.status.Status.{Status}
+use Rattle.psi_texts.specs.declared.status.Status.{Status}
 
 -- the tree places no set, whatever is read and taken
 unfoldable pub PlacesNone : Tree → Type 0

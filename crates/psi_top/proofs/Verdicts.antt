@@ -1,7 +1,7 @@
 -- What a verdict says of the lists, the deals and the record that it was passed on.
-use Rattle.std.proofs.Common.{◌≡◌, ◌≢◌, ◌+◌, ◌-◌, ◌<◌, ◌==◌, ◌∙◌, ℕ, zero, suc, Bool, true, false, cond, List, [], ◌∷◌, ◌++◌, length, map, take, get_or, slice_get, slice_index, Option, Some, None, Ok, Err, nat_eq, refl, sym, ap, ap₂, subst, arith}
+use Rattle.std.proofs.Common.{◌≡◌, ◌≢◌, ◌+◌, ◌<◌, ◌==◌, ◌∙◌, ℕ, zero, suc, Bool, true, false, cond, List, [], ◌∷◌, ◌++◌, length, map, take, get_or, slice_get, slice_index, Option, Some, None, Ok, Err, nat_eq, refl, sym, ap, ap₂, subst, arith}
 use Rattle.std.specs.declared.result.Result.{Result}
-use Rattle.std.specs.List.{AllZip, filter_map, list_any, range_with_len}
+use Rattle.std.specs.List.{AllZip, filter_map, range_with_len}
 use Rattle.std.specs.Option.{option_map_or}
 use Rattle.std.proofs.lemmas.Bool.{eqb-true, leb-true, eq-eqb, false_from_ne_true, true≢false}
 use Rattle.std.proofs.lemmas.List.{get_or-map, get_or-take, length-map, length-take}
@@ -34,8 +34,8 @@ use Rattle.psi_receiver.proofs.Hearing.{width_of}
 use Rattle.psi_top.specs.Audit.{findings_of, found_by}
 use Rattle.psi_top.specs.AuditPromises.{DifferAt, DiffersFrom, Evidence, IsConsistent, IsPlayable, findings_in, session_in, setup_in}
 use Rattle.psi_top.specs.declared.findings.Findings.{Findings}
-use Rattle.psi_top.specs.declared.status.Status.{Status}
-use Rattle.psi_top.specs.declared.status.Status.TheVariants as status
+use Rattle.psi_texts.specs.declared.status.Status.{Status}
+use Rattle.psi_texts.specs.declared.status.Status.TheVariants as status
 
 -- ---- slots without a fault
 

@@ -5,7 +5,7 @@ use Rattle.std.specs.Option.{option_map, IfSome}
 use Rattle.std.proofs.lemmas.Bool.Decides.{nat_tests}
 use Rattle.psi_spec.specs.CrowdedLists.{IsCrowded, touched_by}
 use Rattle.psi_spec.specs.Placement.{Slot}
-use Rattle.psi_top.specs.Words.{word_at}
+use Rattle.psi_words.specs.Words.{word_at}
 use Rattle.psi_base.specs.Outside.{Known, Outside, Files, HasFile, HasAtLeast, LacksFile, Rose, Reads, Opens, Starved}
 use Rattle.psi_base.specs.declared.faults.Fault.{Fault}
 use Rattle.psi_base.specs.declared.faults.Fault.TheVariants as fault
@@ -19,8 +19,8 @@ use Rattle.psi_top.specs.Due.{Contents, Due, lacks, long, refusal, unplaced, rea
 use Rattle.psi_top.specs.Promises.{Untouched, Stands}
 use Rattle.psi_top.specs.Tree.{Effect, Placing, Tree, reads, refuses, places, opens, talks, ends, End, stopped}
 use Rattle.psi_top.specs.Walk.{AtCall, AtPlace, AtRefusal, starved, cut, passed, hungry, crowded, placed, given_up, refused, IsVerdict, Follows, Gives, read_status, open_status, talk_status}
-use Rattle.psi_top.specs.declared.status.Status.{Status}
-use Rattle.psi_top.specs.declared.status.Status.TheVariants as status
+use Rattle.psi_texts.specs.declared.status.Status.{Status}
+use Rattle.psi_texts.specs.declared.status.Status.TheVariants as status
 use Rattle.psi_top.proofs.Standing.{does_stands}
 
 -- only the link was used

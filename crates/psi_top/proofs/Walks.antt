@@ -9,9 +9,9 @@ use Rattle.psi_top.specs.Tree.{Placing, Tree, reads, refuses, places, opens, tal
 use Rattle.psi_frames.specs.Dialogue.{Dialogue, Talks}
 use Rattle.psi_frames.specs.declared.turns.EndFault.{EndFault}
 use Rattle.psi_top.specs.Walk.{Places, StepsTalk, crowded, cut, passed, placed, talk_status, starved, hungry, given_up, refused, gave_up, all_done, IsVerdict, Does, Follows, Runs, Settles, Steps, StepsRead}
-use Rattle.psi_top.specs.declared.status.Outcome.{Outcome}
-use Rattle.psi_top.specs.declared.status.Status.{Status}
-use Rattle.psi_top.specs.declared.status.Status.TheVariants as status
+use Rattle.psi_top.specs.declared.outcome.Outcome.{Outcome}
+use Rattle.psi_texts.specs.declared.status.Status.{Status}
+use Rattle.psi_texts.specs.declared.status.Status.TheVariants as status
 
 does_starve : (words : List (List ℕ)) (wire : Option (List ℕ)) (effects : List Effect) (before : Outside)
     → Does words false wire effects before (stopped status.NoMemory before)

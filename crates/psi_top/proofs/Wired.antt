@@ -2,21 +2,21 @@
 use Rattle.std.proofs.Common.{◌≡◌, ◌⊎◌, inl, inr, ℕ, Bool, true, false, List, [], ◌∷◌, Option, Some, None, Ok, Err, refl, ap, ◌∙◌}
 use Rattle.std.specs.declared.result.Result.{Result}
 use Rattle.psi_spec.specs.Placement.{Slot}
-use Rattle.psi_top.specs.Words.{bad_word, word_at}
+use Rattle.psi_words.specs.Words.{bad_word, word_at}
 use Rattle.psi_base.specs.Outside.{Known, Outside, Writes, PrintsAll, Opens}
 use Rattle.psi_frames.specs.Dialogue.{Talks}
 use Rattle.psi_top.specs.Audit.{audit_record, audit_tree, findings_of}
 use Rattle.psi_top.specs.Twin.{twin_sets, twin_tree, twins_in}
 use Rattle.psi_top.specs.Commands.{Answers, AnswersBy, tree_of}
 use Rattle.psi_top.specs.Files.{items_in, old_deal_in, reads_items, reads_old, reads_receiver, reads_record, reads_sender, receiver_in, record_in, sender_in}
-use Rattle.psi_top.specs.Form.{command_of}
+use Rattle.psi_words.specs.Form.{command_of}
 use Rattle.psi_top.specs.LocalPromises.{IsWired, RunsBothEnds}
 use Rattle.psi_top.specs.Tree.{Effect, says, puts, Placing, Tree, reads, refuses, places, opens, talks, ends, decides, End, stopped}
 use Rattle.psi_top.specs.Walk.{AtCall, AtPlace, AtRefusal, AtEnd, starved, cut, passed, hungry, crowded, placed, given_up, refused, gave_up, all_done, Does, Follows, Gives, read_status, write_status, print_status, open_status, talk_status}
-use Rattle.psi_top.specs.declared.form.Command.{Command}
-use Rattle.psi_top.specs.declared.form.Command.TheVariants.{Audit, Deal, Local, Make, Receive, Renew, Send, Trial, Twin}
-use Rattle.psi_top.specs.declared.status.Status.{Status}
-use Rattle.psi_top.specs.declared.status.Status.TheVariants as status
+use Rattle.psi_words.specs.declared.form.Command.{Command}
+use Rattle.psi_words.specs.declared.form.Command.TheVariants.{Audit, Deal, Local, Make, Receive, Renew, Send, Trial, Twin}
+use Rattle.psi_texts.specs.declared.status.Status.{Status}
+use Rattle.psi_texts.specs.declared.status.Status.TheVariants as status
 
 -- an end without a digest, or a run that is done and may have one
 MayHave : Bool → End → Type 0

@@ -9,8 +9,8 @@ use Rattle.psi_audit.specs.declared.verdict.Verdict.TheVariants as verdict
 use Rattle.psi_top.specs.Files.{reads_items, reads_receiver, reads_record, reads_sender}
 use Rattle.psi_top.specs.Tree.{says, Tree, decides, ends}
 use Rattle.psi_top.specs.declared.findings.Findings.{Findings}
-use Rattle.psi_top.specs.declared.status.Status.{Status}
-use Rattle.psi_top.specs.declared.status.Status.TheVariants as status
+use Rattle.psi_texts.specs.declared.status.Status.{Status}
+use Rattle.psi_texts.specs.declared.status.Status.TheVariants as status
 
 -- a name and a number in a line
 unfoldable pub number_line : List ℕ → ℕ → List ℕ

@@ -10,21 +10,21 @@ use Rattle.psi_spec.specs.Placement.{IsPlacementOf}
 use Rattle.psi_spec.specs.Records.{LoggedSession, logged_of, wire_place}
 use Rattle.psi_spec.specs.SessionLaws.{pair_setup}
 use Rattle.psi_spec.specs.Sessions.{session_bytes}
-use Rattle.psi_top.specs.Words.{bad_word, word_at}
+use Rattle.psi_words.specs.Words.{bad_word, word_at}
 use Rattle.psi_base.specs.Outside.{Known, Outside, Files, printed_too}
 use Rattle.psi_deal.specs.Differences.{first_difference}
 use Rattle.psi_log.specs.BadRecords.{bad_record}
 use Rattle.psi_audit.specs.Verdicts.{places_of, slots_fault}
 use Rattle.psi_top.specs.Audit.{audit_text}
-use Rattle.psi_top.specs.Form.{command_of}
+use Rattle.psi_words.specs.Form.{command_of}
 use Rattle.psi_top.specs.JudgedFiles.{HasBadLine, HasBadReceiverDeal, HasBadRecord, HasBadSenderDeal, HasItems, HasReceiverDeal, HasRecord, HasSenderDeal}
 use Rattle.psi_top.specs.LocalPromises.{HasList, OnFirstOrSecond}
 use Rattle.psi_top.specs.Promises.{IsCalm, IsSilent}
 use Rattle.psi_top.specs.Tree.{End}
 use Rattle.psi_top.specs.declared.findings.Findings.{Findings}
-use Rattle.psi_top.specs.declared.form.Command.TheVariants.{Audit}
-use Rattle.psi_top.specs.declared.status.Status.{Status}
-use Rattle.psi_top.specs.declared.status.Status.TheVariants.{Done, BadItems, BadDeal, Differs, BadSlots, BadRecord, FileFault, PrintFault, TooLong, DealsDiffer, NoMemory}
+use Rattle.psi_words.specs.declared.form.Command.TheVariants.{Audit}
+use Rattle.psi_texts.specs.declared.status.Status.{Status}
+use Rattle.psi_texts.specs.declared.status.Status.TheVariants.{Done, BadItems, BadDeal, Differs, BadSlots, BadRecord, FileFault, PrintFault, TooLong, DealsDiffer, NoMemory}
 
 -- ---- what it reads
 

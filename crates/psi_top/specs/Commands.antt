@@ -1,10 +1,10 @@
 -- The commands as trees of steps, and what a run may answer.
 use Rattle.std.specs.Prelude.{◌≡◌, ℕ, List, Option, Some, None}
-use Rattle.psi_top.specs.Words.{bad_word}
+use Rattle.psi_words.specs.Words.{bad_word}
 use Rattle.psi_base.specs.Outside.{Known, Outside}
 use Rattle.psi_top.specs.Audit.{audit_tree}
 use Rattle.psi_top.specs.Deal.{deal_tree}
-use Rattle.psi_top.specs.Form.{command_of}
+use Rattle.psi_words.specs.Form.{command_of}
 use Rattle.psi_top.specs.Local.{local_tree}
 use Rattle.psi_top.specs.Make.{make_tree}
 use Rattle.psi_top.specs.Receive.{receive_tree}
@@ -14,9 +14,9 @@ use Rattle.psi_top.specs.Tree.{Tree, End, stopped}
 use Rattle.psi_top.specs.Trial.{trial_tree}
 use Rattle.psi_top.specs.Twin.{twin_tree}
 use Rattle.psi_top.specs.Walk.{Runs}
-use Rattle.psi_top.specs.declared.form.Command.{Command}
-use Rattle.psi_top.specs.declared.form.Command.TheVariants.{Audit, Deal, Local, Make, Receive, Renew, Send, Trial, Twin}
-use Rattle.psi_top.specs.declared.status.Status.TheVariants.{BadWords}
+use Rattle.psi_words.specs.declared.form.Command.{Command}
+use Rattle.psi_words.specs.declared.form.Command.TheVariants.{Audit, Deal, Local, Make, Receive, Renew, Send, Trial, Twin}
+use Rattle.psi_texts.specs.declared.status.Status.TheVariants.{BadWords}
 
 -- the steps of a command with these words
 abbrev pub tree_of : Command → List (List ℕ) → Tree

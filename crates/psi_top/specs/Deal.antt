@@ -2,12 +2,12 @@
 use Rattle.std.specs.Prelude.{◌≡◌, ℕ, List, [], ◌∷◌, None, Some}
 use Rattle.psi_spec.specs.DealFiles.{receiver_bytes, sender_bytes}
 use Rattle.psi_spec.specs.Deals.{ReceiverDeal, SenderDeal, ArePair, dealt_receiver, dealt_sender}
-use Rattle.psi_top.specs.Words.{number_of, seed_of, stash_of, tag_length_of, word_at}
+use Rattle.psi_words.specs.Words.{number_of, seed_of, stash_of, tag_length_of, word_at}
 use Rattle.psi_base.specs.Outside.{Outside, written}
-use Rattle.psi_top.specs.Form.{command_of}
+use Rattle.psi_words.specs.Form.{command_of}
 use Rattle.psi_top.specs.Tree.{puts, Tree, ends, End}
-use Rattle.psi_top.specs.declared.form.Command.TheVariants.{Deal}
-use Rattle.psi_top.specs.declared.status.Status.TheVariants.{Done}
+use Rattle.psi_words.specs.declared.form.Command.TheVariants.{Deal}
+use Rattle.psi_texts.specs.declared.status.Status.TheVariants.{Done}
 
 -- the pair of deals that the words of `deal` name by their seed, session and sizes
 unfoldable pub deal_receiver : List (List ℕ) → ReceiverDeal

@@ -1,12 +1,12 @@
 -- What a tree of steps comes to, where the contents of the outside are told.
 use Rattle.std.specs.Prelude.{◌==◌, ℕ, List, [], ◌∷◌, Option, Some, None, length, nat_lt, unwrap_or, take, true, if◌then◌else◌}
 use Rattle.psi_spec.specs.Placement.{Slot}
-use Rattle.psi_top.specs.Words.{word_at}
+use Rattle.psi_words.specs.Words.{word_at}
 use Rattle.psi_base.specs.Outside.{Outside, Files, printed_too, written, partly_written}
 use Rattle.psi_frames.specs.Dialogue.{Reading, good, bad, short, talked}
 use Rattle.psi_top.specs.Tree.{Effect, says, puts, Placing, Tree, reads, refuses, places, opens, talks, ends}
-use Rattle.psi_top.specs.declared.status.Status.{Status}
-use Rattle.psi_top.specs.declared.status.Status.TheVariants.{BadFrame, PeerEnded}
+use Rattle.psi_texts.specs.declared.status.Status.{Status}
+use Rattle.psi_texts.specs.declared.status.Status.TheVariants.{BadFrame, PeerEnded}
 
 -- the first refusal that is due, a set that got no slots, or that all is read, placed and exchanged: then what is left
 -- to do, and from where

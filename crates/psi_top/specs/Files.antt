@@ -13,8 +13,8 @@ use Rattle.psi_items.specs.Reading.{bad_items_of}
 use Rattle.psi_log.specs.BadRecords.{bad_record}
 use Rattle.psi_log.specs.declared.errors.BadRecord.{BadRecord as RecordFault}
 use Rattle.psi_top.specs.Tree.{Tree, reads, decides}
-use Rattle.psi_top.specs.declared.status.Status.{Status}
-use Rattle.psi_top.specs.declared.status.Status.TheVariants.{BadDeal, BadItems, BadRecord}
+use Rattle.psi_texts.specs.declared.status.Status.{Status}
+use Rattle.psi_texts.specs.declared.status.Status.TheVariants.{BadDeal, BadItems, BadRecord}
 
 -- the items of the file of a word, or the fault of its first bad line
 abbrev pub judged_items : ℕ → List ℕ → Option BadLine → Result (List (List ℕ)) Status

@@ -4,7 +4,6 @@ pub mod Commands
 pub mod Deal
 pub mod Due
 pub mod Files
-pub mod Form
 pub mod JudgedFiles
 pub mod Local
 pub mod LocalPromises
@@ -16,7 +15,6 @@ pub mod Renew
 pub mod RenewPromises
 pub mod Send
 pub mod SendPromises
-pub mod Texts
 pub mod Transcript
 pub mod Tree
 pub mod Trial
@@ -24,4 +22,3 @@ pub mod TrialPromises
 pub mod Twin
 pub mod TwinPromises
 pub mod Walk
-pub mod Words

@@ -9,7 +9,7 @@ use Rattle.psi_spec.specs.Records.{record_file}
 use Rattle.psi_spec.specs.SessionLaws.{pair_setup}
 use Rattle.psi_spec.specs.Sessions.{session_bytes}
 use Rattle.psi_spec.specs.Texts.{lines_text}
-use Rattle.psi_top.specs.Words.{number_of, seed_of, stash_of, tag_length_of, word_at}
+use Rattle.psi_words.specs.Words.{number_of, seed_of, stash_of, tag_length_of, word_at}
 use Rattle.psi_top.specs.Files.{reads_items}
 use Rattle.psi_top.specs.Receive.{placing_of}
 use Rattle.psi_top.specs.Tree.{Effect, says, puts, Tree, places, ends}

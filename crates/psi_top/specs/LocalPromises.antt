@@ -8,17 +8,17 @@ use Rattle.psi_spec.specs.Meeting.{Placed, SharesTag, shown, shown_placed}
 use Rattle.psi_spec.specs.Placement.{Slot, IsPlacementOf}
 use Rattle.psi_spec.specs.Records.{record_file}
 use Rattle.psi_spec.specs.Texts.{lines_text}
-use Rattle.psi_top.specs.Words.{bad_word, word_at}
+use Rattle.psi_words.specs.Words.{bad_word, word_at}
 use Rattle.psi_base.specs.Outside.{Known, Outside, Files, printed_too, written}
-use Rattle.psi_top.specs.Form.{command_of}
+use Rattle.psi_words.specs.Form.{command_of}
 use Rattle.psi_top.specs.JudgedFiles.{HasBadLine, HasItems}
 use Rattle.psi_top.specs.Local.{local_receiver, local_sender, local_session, local_setup}
 use Rattle.psi_top.specs.Promises.{IsCalm, IsSilent}
 use Rattle.psi_top.specs.ReceivePromises.{IsCrowdedSet}
 use Rattle.psi_top.specs.Tree.{End}
-use Rattle.psi_top.specs.declared.form.Command.TheVariants.{Local, Trial}
-use Rattle.psi_top.specs.declared.status.Status.{Status}
-use Rattle.psi_top.specs.declared.status.Status.TheVariants.{Done, BadItems, NoPlacement, FileFault, PrintFault, TooLong, NoMemory}
+use Rattle.psi_words.specs.declared.form.Command.TheVariants.{Local, Trial}
+use Rattle.psi_texts.specs.declared.status.Status.{Status}
+use Rattle.psi_texts.specs.declared.status.Status.TheVariants.{Done, BadItems, NoPlacement, FileFault, PrintFault, TooLong, NoMemory}
 
 -- ---- what it may answer
 

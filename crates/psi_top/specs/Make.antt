@@ -1,12 +1,12 @@
 -- What `make` does: it writes two item files that are made by rule.
 use Rattle.std.specs.Prelude.{◌≡◌, ℕ, Bool, true, false, List, [], ◌∷◌, None, Some}
 use Rattle.psi_spec.specs.MadeFiles.{made_file}
-use Rattle.psi_top.specs.Words.{number_of, word_at}
+use Rattle.psi_words.specs.Words.{number_of, word_at}
 use Rattle.psi_base.specs.Outside.{Outside, written}
-use Rattle.psi_top.specs.Form.{command_of}
+use Rattle.psi_words.specs.Form.{command_of}
 use Rattle.psi_top.specs.Tree.{puts, Tree, ends, End}
-use Rattle.psi_top.specs.declared.form.Command.TheVariants.{Make}
-use Rattle.psi_top.specs.declared.status.Status.TheVariants.{Done}
+use Rattle.psi_words.specs.declared.form.Command.TheVariants.{Make}
+use Rattle.psi_texts.specs.declared.status.Status.TheVariants.{Done}
 
 -- the file that the words name by the number of its items, of those in both files, and of the files: the first or the
 -- second

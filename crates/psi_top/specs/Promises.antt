@@ -3,18 +3,18 @@ use Rattle.std.specs.Prelude.{◌≡◌, ◌<◌, ◌≤◌, ◌⊎◌, ℕ, Lis
 use Rattle.psi_spec.specs.Frames.{AreBytes}
 use Rattle.psi_spec.specs.CrowdedLists.{IsCrowded, touched_by}
 use Rattle.psi_spec.specs.Placement.{Slot, IsPlacement}
-use Rattle.psi_top.specs.Words.{bad_word, word_at}
+use Rattle.psi_words.specs.Words.{bad_word, word_at}
 use Rattle.psi_base.specs.Outside.{Known, Outside, Files, HasFile, LacksFile, LinkFailed, Rose}
 use Rattle.psi_frames.specs.declared.turns.EndFault.TheVariants as peer
 use Rattle.psi_top.specs.Commands.{tree_of}
 use Rattle.psi_frames.specs.Dialogue.{Dialogue, CutOff, HeardBad, HeardShort, ReadSo, Talks, WereTaken, good, talked}
 use Rattle.psi_top.specs.Due.{Contents, Due, lacks, long, refusal, unplaced, reached, due, told, without, after_effects, after_part}
-use Rattle.psi_top.specs.Form.{command_of}
+use Rattle.psi_words.specs.Form.{command_of}
 use Rattle.psi_top.specs.Tree.{Effect, says, puts, Placing, Tree, reads, refuses, places, opens, talks, ends, End}
 use Rattle.psi_top.specs.Walk.{IsNotPlaced, IsVerdict}
-use Rattle.psi_top.specs.declared.form.Command.{Command}
-use Rattle.psi_top.specs.declared.status.Status.{Status}
-use Rattle.psi_top.specs.declared.status.Status.TheVariants.{Done, BadWords, NoPlacement, BadFrame, PeerEnded, FileFault, LinkFault, PrintFault, TooLong, NoMemory}
+use Rattle.psi_words.specs.declared.form.Command.{Command}
+use Rattle.psi_texts.specs.declared.status.Status.{Status}
+use Rattle.psi_texts.specs.declared.status.Status.TheVariants.{Done, BadWords, NoPlacement, BadFrame, PeerEnded, FileFault, LinkFault, PrintFault, TooLong, NoMemory}
 
 -- ---- words
 
@@ -268,8 +268,8 @@ StandsBy words before why after early (reached mid effects) =
     Stands words effects mid why after ⊎ (early × Untouched before after)
 StandsBy words before why after early _ = Untouched before after
 
--- nothing was printed or written before all was read, placed and exchanged; and then what is due stands in order, unless
--- the run was stopped before
+-- nothing was printed or written before all was read, placed and exchanged; and then what is due stands in order,
+-- unless the run was stopped before
 abbrev pub StandsAt : List (List ℕ) → Outside → Status → Outside → (Contents → Due) → Contents → Type 0
 StandsAt words before why after d contents =
     StandsBy words before why after (IsStoppedBefore why d contents) (d contents)

@@ -13,19 +13,19 @@ use Rattle.psi_spec.specs.SessionLaws.{pair_setup}
 use Rattle.psi_spec.specs.Sessions.{dealt_masked, weave}
 use Rattle.psi_spec.specs.Streams.{sender_stream}
 use Rattle.psi_spec.specs.Texts.{lines_text}
-use Rattle.psi_top.specs.Words.{bad_word, word_at}
+use Rattle.psi_words.specs.Words.{bad_word, word_at}
 use Rattle.psi_base.specs.Outside.{Known, Outside, Files, LinkFailed, Rose, printed_too, written}
 use Rattle.psi_frames.specs.Dialogue.{CutOff, HeardBad, HeardShort, Talks, WereTaken, talked}
 use Rattle.psi_frames.specs.declared.turns.EndFault.TheVariants as peer
 use Rattle.psi_receiver.specs.Laws.{IsStreamFor, own_stream, receiver_dialogue}
-use Rattle.psi_top.specs.Form.{command_of}
+use Rattle.psi_words.specs.Form.{command_of}
 use Rattle.psi_top.specs.JudgedFiles.{HasBadLine, HasBadReceiverDeal, HasItems, HasReceiverDeal}
 use Rattle.psi_top.specs.Promises.{IsCalm, IsSilent}
 use Rattle.psi_top.specs.SendPromises.{AfterItems, opened}
 use Rattle.psi_top.specs.Tree.{End}
-use Rattle.psi_top.specs.declared.form.Command.TheVariants.{Receive}
-use Rattle.psi_top.specs.declared.status.Status.{Status}
-use Rattle.psi_top.specs.declared.status.Status.TheVariants.{Done, BadItems, BadDeal, NoPlacement, BadFrame, PeerEnded, FileFault, LinkFault, PrintFault, TooLong, NoMemory}
+use Rattle.psi_words.specs.declared.form.Command.TheVariants.{Receive}
+use Rattle.psi_texts.specs.declared.status.Status.{Status}
+use Rattle.psi_texts.specs.declared.status.Status.TheVariants.{Done, BadItems, BadDeal, NoPlacement, BadFrame, PeerEnded, FileFault, LinkFault, PrintFault, TooLong, NoMemory}
 
 -- both files were read and judged, and a fact holds of the items and the deal
 pub record WithSet (known : Known) (words : List (List ℕ)) (before : Outside)

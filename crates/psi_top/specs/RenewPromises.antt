@@ -4,14 +4,14 @@ use Rattle.psi_spec.specs.Limits.{file_limit}
 use Rattle.psi_base.specs.Outside.{Known, Outside, Files, written}
 use Rattle.psi_deal.specs.OldDeals.{IsOldFile, renewed}
 use Rattle.psi_deal.specs.declared.old_files.OldDeal.{OldDeal}
-use Rattle.psi_top.specs.Form.{command_of}
+use Rattle.psi_words.specs.Form.{command_of}
 use Rattle.psi_top.specs.JudgedFiles.{HasBadOldDeal, HasOldDeal}
 use Rattle.psi_top.specs.Promises.{IsCalm, IsSilent}
 use Rattle.psi_top.specs.Tree.{End}
-use Rattle.psi_top.specs.Words.{bad_word, word_at}
-use Rattle.psi_top.specs.declared.form.Command.TheVariants.{Renew}
-use Rattle.psi_top.specs.declared.status.Status.{Status}
-use Rattle.psi_top.specs.declared.status.Status.TheVariants.{Done, BadDeal, FileFault, TooLong, NoMemory}
+use Rattle.psi_words.specs.Words.{bad_word, word_at}
+use Rattle.psi_words.specs.declared.form.Command.TheVariants.{Renew}
+use Rattle.psi_texts.specs.declared.status.Status.{Status}
+use Rattle.psi_texts.specs.declared.status.Status.TheVariants.{Done, BadDeal, FileFault, TooLong, NoMemory}
 
 -- ---- what it leaves
 

@@ -5,18 +5,18 @@ use Rattle.psi_spec.specs.Deals.{SenderDeal, IsSenderDeal}
 use Rattle.psi_spec.specs.Items.{first_bad}
 use Rattle.psi_spec.specs.Limits.{file_limit}
 use Rattle.psi_spec.specs.Streams.{sender_stream}
-use Rattle.psi_top.specs.Words.{bad_word, word_at}
+use Rattle.psi_words.specs.Words.{bad_word, word_at}
 use Rattle.psi_base.specs.Outside.{Known, Outside, Files, LinkFailed, Rose}
 use Rattle.psi_frames.specs.Dialogue.{CutOff, HeardBad, HeardShort, Talks, WereTaken, talked}
 use Rattle.psi_frames.specs.declared.turns.EndFault.TheVariants as peer
 use Rattle.psi_sender.specs.Laws.{IsStreamFor, sender_dialogue}
-use Rattle.psi_top.specs.Form.{command_of}
+use Rattle.psi_words.specs.Form.{command_of}
 use Rattle.psi_top.specs.JudgedFiles.{HasBadLine, HasBadSenderDeal, HasItems, HasSenderDeal}
 use Rattle.psi_top.specs.Promises.{IsCalm, IsSilent}
 use Rattle.psi_top.specs.Tree.{End}
-use Rattle.psi_top.specs.declared.form.Command.TheVariants.{Send}
-use Rattle.psi_top.specs.declared.status.Status.{Status}
-use Rattle.psi_top.specs.declared.status.Status.TheVariants.{Done, BadItems, BadDeal, BadFrame, PeerEnded, FileFault, LinkFault, TooLong, NoMemory}
+use Rattle.psi_words.specs.declared.form.Command.TheVariants.{Send}
+use Rattle.psi_texts.specs.declared.status.Status.{Status}
+use Rattle.psi_texts.specs.declared.status.Status.TheVariants.{Done, BadItems, BadDeal, BadFrame, PeerEnded, FileFault, LinkFault, TooLong, NoMemory}
 
 -- the outside with the link open
 abbrev pub opened : Outside → Outside

@@ -3,9 +3,9 @@ use Rattle.std.specs.Prelude.{ℕ, List, ◌∷◌, [], Option, Some, None, Resu
 use Rattle.psi_spec.specs.Placement.{Slot}
 use Rattle.psi_base.specs.Outside.{Outside}
 use Rattle.psi_frames.specs.Dialogue.{Dialogue}
-use Rattle.psi_top.specs.declared.status.Status.{Status}
-use Rattle.psi_top.specs.declared.status.Status.TheVariants.{Done}
-use Rattle.psi_top.specs.declared.status.Outcome.{Outcome}
+use Rattle.psi_texts.specs.declared.status.Status.{Status}
+use Rattle.psi_texts.specs.declared.status.Status.TheVariants.{Done}
+use Rattle.psi_top.specs.declared.outcome.Outcome.{Outcome}
 
 -- what is done once nothing is refused any more: a text is printed, or the file of a word is written
 pub data Effect : Type 0 where

@@ -11,7 +11,7 @@ use Rattle.psi_spec.specs.Sessions.{dealt_masked, session_bytes}
 use Rattle.psi_spec.specs.Streams.{sender_stream}
 use Rattle.psi_items.specs.Made.{made_items}
 use Rattle.psi_receiver.specs.Laws.{own_stream}
-use Rattle.psi_top.specs.Words.{number_of, seed_of, word_at}
+use Rattle.psi_words.specs.Words.{number_of, seed_of, word_at}
 use Rattle.psi_top.specs.Receive.{placing_of}
 use Rattle.psi_top.specs.Transcript.{receiver_size, sender_size}
 use Rattle.psi_top.specs.Tree.{says, Tree, places, ends}

@@ -3,16 +3,16 @@ use Rattle.std.specs.Prelude.{◌≡◌, ◌⊎◌, ℕ, List, [], ◌∷◌, fa
 use Rattle.sha2.specs.Sha256.{sha256}
 use Rattle.psi_spec.specs.Limits.{bins_for}
 use Rattle.psi_spec.specs.Placement.{Slot, IsPlacementOf}
-use Rattle.psi_top.specs.Words.{bad_word}
+use Rattle.psi_words.specs.Words.{bad_word}
 use Rattle.psi_base.specs.Outside.{Outside, Files, printed_too}
-use Rattle.psi_top.specs.Form.{command_of}
+use Rattle.psi_words.specs.Form.{command_of}
 use Rattle.psi_top.specs.Promises.{IsCalm, IsSilent}
 use Rattle.psi_top.specs.ReceivePromises.{IsCrowdedSet}
 use Rattle.psi_top.specs.Tree.{End}
 use Rattle.psi_top.specs.Trial.{trial_items, trial_receiver, trial_session, trial_text}
-use Rattle.psi_top.specs.declared.form.Command.TheVariants.{Trial}
-use Rattle.psi_top.specs.declared.status.Status.{Status}
-use Rattle.psi_top.specs.declared.status.Status.TheVariants.{Done, NoPlacement, PrintFault, NoMemory}
+use Rattle.psi_words.specs.declared.form.Command.TheVariants.{Trial}
+use Rattle.psi_texts.specs.declared.status.Status.{Status}
+use Rattle.psi_texts.specs.declared.status.Status.TheVariants.{Done, NoPlacement, PrintFault, NoMemory}
 
 -- ---- what it may answer
 

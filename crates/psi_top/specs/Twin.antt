@@ -16,8 +16,8 @@ use Rattle.psi_top.specs.Files.{reads_items, reads_receiver, reads_sender}
 use Rattle.psi_top.specs.Receive.{placing_of}
 use Rattle.psi_top.specs.Tree.{Effect, puts, Placing, Tree, decides, places, ends, End, stopped, with_slots}
 use Rattle.psi_top.specs.Walk.{Places}
-use Rattle.psi_top.specs.declared.status.Status.{Status}
-use Rattle.psi_top.specs.declared.status.Status.TheVariants.{DealsDiffer, SizesDiffer}
+use Rattle.psi_texts.specs.declared.status.Status.{Status}
+use Rattle.psi_texts.specs.declared.status.Status.TheVariants.{DealsDiffer, SizesDiffer}
 
 -- ---- what is judged
 

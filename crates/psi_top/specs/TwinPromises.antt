@@ -10,20 +10,20 @@ use Rattle.psi_spec.specs.Limits.{bins_for, file_limit}
 use Rattle.psi_spec.specs.Meeting.{Placed, placed_of}
 use Rattle.psi_spec.specs.Placement.{Slot, IsPlacementOf}
 use Rattle.psi_spec.specs.Streams.{receiver_stream}
-use Rattle.psi_top.specs.Words.{bad_word, word_at}
+use Rattle.psi_words.specs.Words.{bad_word, word_at}
 use Rattle.psi_base.specs.Outside.{Known, Outside, Files, written}
 use Rattle.psi_deal.specs.Differences.{first_difference}
 use Rattle.psi_top.specs.AuditPromises.{AfterDeal, AfterList, AfterLists}
-use Rattle.psi_top.specs.Form.{command_of}
+use Rattle.psi_words.specs.Form.{command_of}
 use Rattle.psi_top.specs.JudgedFiles.{HasBadLine, HasBadReceiverDeal, HasBadSenderDeal, HasItems, HasReceiverDeal, HasSenderDeal}
 use Rattle.psi_top.specs.LocalPromises.{HasList, OnFirstOrSecond}
 use Rattle.psi_top.specs.Promises.{IsCalm, IsSilent}
 use Rattle.psi_top.specs.ReceivePromises.{IsCrowdedSet}
 use Rattle.psi_top.specs.Tree.{End}
 use Rattle.psi_top.specs.Twin.{dealt_for}
-use Rattle.psi_top.specs.declared.form.Command.TheVariants.{Twin}
-use Rattle.psi_top.specs.declared.status.Status.{Status}
-use Rattle.psi_top.specs.declared.status.Status.TheVariants.{Done, BadItems, BadDeal, NoPlacement, FileFault, TooLong, DealsDiffer, SizesDiffer, NoMemory}
+use Rattle.psi_words.specs.declared.form.Command.TheVariants.{Twin}
+use Rattle.psi_texts.specs.declared.status.Status.{Status}
+use Rattle.psi_texts.specs.declared.status.Status.TheVariants.{Done, BadItems, BadDeal, NoPlacement, FileFault, TooLong, DealsDiffer, SizesDiffer, NoMemory}
 
 -- ---- what it reads
 

@@ -9,13 +9,14 @@ ghost use Rattle.psi_top.specs.Tree.{decides, end_of, ended};
 ghost use Rattle.psi_top.specs.Walk.{Runs, Settles};
 
 use crate::findings::{Findings, print_findings};
-use crate::status::{Outcome, Status, outcome_of};
+use crate::outcome::{Outcome, outcome_of};
 use crate::steps::{judge_record, read_bytes, read_items, read_receiver_deal, read_sender_deal};
 use psi_audit::{Verdict, audit};
 use psi_base::{RECORD_LIMIT, Words, World};
 use psi_deal::{ReceiverDeal, SenderDeal};
 use psi_items::Items;
 use psi_log::LoggedSession;
+use psi_texts::Status;
 use std::alloc::Global;
 
 // What the session shows that is recorded, or why the record is not that of these inputs.

@@ -1,18 +1,18 @@
 // The two deal files of a seed.
 ghost use Rattle.std.specs.Prelude.{◌≡◌, IfOk, None, Some};
 ghost use Rattle.psi_spec.specs.DealFiles.{receiver_bytes, sender_bytes};
-ghost use Rattle.psi_top.specs.Words.{bad_word};
+ghost use Rattle.psi_words.specs.Words.{bad_word};
 ghost use Rattle.psi_top.specs.Deal.{deal_receiver, deal_sender, deal_tree};
-ghost use Rattle.psi_top.specs.Form.{command_of};
+ghost use Rattle.psi_words.specs.Form.{command_of};
 ghost use Rattle.psi_top.specs.Tree.{end_of, ended};
 ghost use Rattle.psi_top.specs.Walk.{Runs};
 
-use crate::form::{Command, word_at};
-use crate::status::{Outcome, Status, outcome_of};
+use crate::outcome::{Outcome, outcome_of};
 use crate::steps::write_word;
-use crate::values::{seed_of, session_of, sizes_of};
 use psi_base::{NoMemory, Words, World};
 use psi_deal::{ReceiverDeal, SenderDeal, deal, write_receiver, write_sender};
+use psi_texts::Status;
+use psi_words::{Command, seed_of, session_of, sizes_of, word_at};
 use std::alloc::Global;
 
 // The pair of deals that the words name. Words in form name no sizes that deals can't have.

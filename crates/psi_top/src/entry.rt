@@ -1,5 +1,5 @@
 // The top call.
-ghost use Rattle.psi_top.specs.Words.{bad_word};
+ghost use Rattle.psi_words.specs.Words.{bad_word};
 ghost use Rattle.psi_top.specs.AuditPromises.{AuditCompletes, IsOfAudit};
 ghost use Rattle.psi_top.specs.Commands.{Answers};
 ghost use Rattle.psi_top.specs.Deal.{DealWrites};
@@ -15,16 +15,17 @@ ghost use Rattle.psi_top.specs.TwinPromises.{IsOfTwin, TwinCompletes, TwinHides}
 
 use crate::audit::audit_command;
 use crate::deal::deal_command;
-use crate::form::{Command, bad_word, named_command};
 use crate::local::local_command;
 use crate::make::make_command;
+use crate::outcome::Outcome;
 use crate::receive::receive_command;
 use crate::renew::renew_command;
 use crate::send::send_command;
-use crate::status::{Outcome, Status};
 use crate::trial::trial_command;
 use crate::twin::twin_command;
 use psi_base::{Words, World};
+use psi_texts::Status;
+use psi_words::{Command, bad_word, named_command};
 use std::alloc::Global;
 
 // Reads the words, and calls the command that they name.

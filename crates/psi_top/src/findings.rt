@@ -5,9 +5,8 @@ ghost use Rattle.psi_top.specs.Audit.{audit_text, collision_line, collision_line
 ghost use Rattle.psi_top.specs.Tree.{says};
 ghost use Rattle.psi_top.specs.Walk.{Makes};
 
-use crate::status::Status;
-use crate::texts::Line;
 use psi_base::{Fault, Pairs, Places, World, print_all};
+use psi_texts::{Line, Status};
 
 /// What a consistent record shows.
 #[derive(Drop)]

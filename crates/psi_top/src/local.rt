@@ -4,26 +4,26 @@ ghost use Rattle.sha2.specs.Hashers.{Holds256};
 ghost use Rattle.sha2.specs.Sha256.{sha256};
 ghost use Rattle.psi_spec.specs.Deals.{ArePair, IsReceiverDeal, IsSenderDeal};
 ghost use Rattle.psi_spec.specs.Texts.{lines_text};
-ghost use Rattle.psi_top.specs.Words.{bad_word};
-ghost use Rattle.psi_top.specs.Form.{command_of};
+ghost use Rattle.psi_words.specs.Words.{bad_word};
+ghost use Rattle.psi_words.specs.Form.{command_of};
 ghost use Rattle.psi_top.specs.Local.{local_receiver, local_sender, local_set, local_tree};
 ghost use Rattle.psi_top.specs.Receive.{marked};
 ghost use Rattle.psi_top.specs.Transcript.{writes};
 ghost use Rattle.psi_top.specs.Tree.{closed, end_of, ended, ends, says};
 ghost use Rattle.psi_top.specs.Walk.{Follows, MakesAll, Runs};
 
-use crate::form::{Command, word_at};
+use crate::outcome::{Outcome, outcome_of};
 use crate::placing::place_items;
 use crate::playing::{PlayedSession, placed_outcome, play, session_length};
 use crate::showing::print_shown;
-use crate::status::{Outcome, Status, outcome_of};
 use crate::steps::{read_items, write_word};
 use crate::transcript::begin_record;
-use crate::values::{seed_of, session_of, sizes_of};
 use psi_base::{NoMemory, Words, World};
 use psi_deal::{ReceiverDeal, SenderDeal, deal};
 use psi_items::Items;
 use psi_log::{Recorder, write_record};
+use psi_texts::Status;
+use psi_words::{Command, seed_of, session_of, sizes_of, word_at};
 use std::alloc::Global;
 
 // The pair of deals that the words name. Words in form name no sizes that deals can't have.

@@ -1,17 +1,17 @@
 // Two item files that are made by rule.
 ghost use Rattle.std.specs.Prelude.{◌≡◌, None, Some};
-ghost use Rattle.psi_top.specs.Words.{bad_word};
-ghost use Rattle.psi_top.specs.Form.{command_of};
+ghost use Rattle.psi_words.specs.Words.{bad_word};
+ghost use Rattle.psi_words.specs.Form.{command_of};
 ghost use Rattle.psi_top.specs.Make.{make_tree};
 ghost use Rattle.psi_top.specs.Tree.{end_of, ended};
 ghost use Rattle.psi_top.specs.Walk.{Runs};
 
-use crate::form::{Command, word_at};
-use crate::status::{Outcome, Status, outcome_of};
+use crate::outcome::{Outcome, outcome_of};
 use crate::steps::write_word;
-use crate::values::{counts_of, session_of};
 use psi_base::{Words, World};
 use psi_items::{MadeFile, make_file};
+use psi_texts::Status;
+use psi_words::{Command, counts_of, session_of, word_at};
 use std::alloc::Global;
 
 // What `make` does. A refusal before there is an outcome is answered as an error.

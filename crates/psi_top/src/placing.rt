@@ -7,12 +7,12 @@ ghost use Rattle.psi_oprf.specs.Candidates.{digest_candidates};
 ghost use Rattle.psi_top.specs.Receive.{placing_of};
 ghost use Rattle.psi_top.specs.Walk.{Places};
 
-use crate::status::Status;
 use psi_base::{NoMemory, bins};
 use psi_cuckoo::{NoFit, Placement, place};
 use psi_deal::ReceiverDeal;
 use psi_items::Items;
 use psi_oprf::candidates_of;
+use psi_texts::Status;
 use std::alloc::Global;
 
 // The candidates of the items with these digests.

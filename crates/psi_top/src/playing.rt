@@ -8,7 +8,7 @@ ghost use Rattle.psi_top.specs.Transcript.{IsPlayed, log_of, receiver_size, send
 ghost use Rattle.psi_top.specs.Tree.{closed, ended, with_slots};
 ghost use Rattle.psi_base.specs.Outside.{Outside};
 
-use crate::status::{Outcome, Status};
+use crate::outcome::Outcome;
 use crate::transcript::SessionTranscript;
 use psi_base::{NoMemory, rows};
 use psi_cuckoo::Placement;
@@ -18,6 +18,7 @@ use psi_log::Recorder;
 use psi_receiver::ReceiverCore;
 use psi_sender::SenderCore;
 use psi_session::exchange;
+use psi_texts::Status;
 use std::alloc::Global;
 
 /// The most tags of a frame.

@@ -13,11 +13,11 @@ ghost use Rattle.psi_receiver.specs.Running.{IsNewReceiver};
 ghost use Rattle.psi_top.specs.Receive.{IsHeard, marked, placing_of, receive_rest, receive_tree};
 ghost use Rattle.psi_top.specs.Tree.{end_of, ended, ends, places, puts, says, stopped};
 ghost use Rattle.psi_top.specs.Walk.{Follows, Runs, StepsTalk, status_of};
-ghost use Rattle.psi_top.specs.declared.status.Status.TheVariants as status;
+ghost use Rattle.psi_texts.specs.declared.status.Status.TheVariants as status;
 
+use crate::outcome::{Outcome, outcome_of};
 use crate::placing::place_items;
 use crate::showing::print_shown;
-use crate::status::{Outcome, Status, outcome_of};
 use crate::steps::{open_link, read_items, read_receiver_deal, session_status, status, write_word};
 use psi_base::{Side, Words, World};
 use psi_cuckoo::Placement;
@@ -25,6 +25,7 @@ use psi_deal::ReceiverDeal;
 use psi_items::Items;
 use psi_log::{Recorder, write_record};
 use psi_receiver::{LoggedReceiver, ReceiverCore, run_receiver};
+use psi_texts::Status;
 use std::alloc::Global;
 
 // The receiver's end, with the record of its placement and no frame yet.

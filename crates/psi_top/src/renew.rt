@@ -3,9 +3,10 @@ ghost use Rattle.psi_top.specs.Renew.{renew_tree};
 ghost use Rattle.psi_top.specs.Tree.{end_of, ended};
 ghost use Rattle.psi_top.specs.Walk.{Runs};
 
-use crate::status::{Outcome, Status, outcome_of};
+use crate::outcome::{Outcome, outcome_of};
 use crate::steps::{read_old_deal, write_word};
 use psi_base::{Words, World};
+use psi_texts::Status;
 use std::alloc::Global;
 
 // What `renew` does. A refusal before there is an outcome is answered as an error.

@@ -6,12 +6,13 @@ ghost use Rattle.psi_top.specs.Send.{send_rest, send_tree};
 ghost use Rattle.psi_top.specs.Tree.{end_of, ended};
 ghost use Rattle.psi_top.specs.Walk.{Runs, StepsTalk};
 
-use crate::status::{Outcome, Status, outcome_of};
+use crate::outcome::{Outcome, outcome_of};
 use crate::steps::{open_link, read_items, read_sender_deal, session_status};
 use psi_base::{Side, Words, World};
 use psi_deal::SenderDeal;
 use psi_items::Items;
 use psi_sender::{SenderCore, run_sender};
+use psi_texts::Status;
 use std::alloc::Global;
 
 // Serves the receiver at the other end of the link.

@@ -6,9 +6,9 @@ ghost use Rattle.psi_top.specs.Receive.{marked};
 ghost use Rattle.psi_top.specs.Tree.{says};
 ghost use Rattle.psi_top.specs.Walk.{Makes};
 
-use crate::status::Status;
 use psi_base::{Fault, World, print_all};
 use psi_items::Items;
+use psi_texts::Status;
 
 // Prints an item and a line feed.
 #[tactic(auto, using(psi_base::proofs::Printing::refused_first, psi_base::proofs::Printing::then_second))]

@@ -8,13 +8,13 @@ ghost use Rattle.psi_top.specs.Files.{items_in, record_in, reads_items, reads_re
 ghost use Rattle.psi_top.specs.Tree.{puts, says};
 ghost use Rattle.psi_top.specs.Walk.{Makes, Settles, Steps, StepsOpen, StepsRead, status_of, talk_status};
 
-use crate::form::word_at;
-use crate::status::Status;
 use psi_base::{FILE_LIMIT, Fault, ReadFault, Side, Words, World, print_all};
 use psi_deal::{BadDeal, OldDeal, ReceiverDeal, SenderDeal, read_old, read_receiver, read_sender};
 use psi_frames::EndFault;
 use psi_items::{BadItems, Items};
 use psi_log::{BadRecord, LoggedSession, read_record};
+use psi_texts::Status;
+use psi_words::word_at;
 use std::alloc::Global;
 
 /// Reads the file that the word at this place names, of at most so many bytes.

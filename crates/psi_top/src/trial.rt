@@ -6,22 +6,22 @@ ghost use Rattle.psi_spec.specs.Deals.{ArePair, IsReceiverDeal, IsSenderDeal};
 ghost use Rattle.psi_spec.specs.Limits.{limit_items};
 ghost use Rattle.psi_items.specs.Made.{made_items};
 ghost use Rattle.psi_items.specs.Making.{is_second};
-ghost use Rattle.psi_top.specs.Words.{bad_word};
-ghost use Rattle.psi_top.specs.Form.{command_of};
+ghost use Rattle.psi_words.specs.Words.{bad_word};
+ghost use Rattle.psi_words.specs.Form.{command_of};
 ghost use Rattle.psi_top.specs.Tree.{closed, end_of, ended, ends, says};
 ghost use Rattle.psi_top.specs.Trial.{measured, numbered, summary_text, trial_receiver, trial_sender, trial_set, trial_tree};
 ghost use Rattle.psi_top.specs.Walk.{Runs};
 
-use crate::form::{Command, word_at};
+use crate::outcome::{Outcome, outcome_of};
 use crate::placing::place_items;
 use crate::playing::{PlayedSession, placed_outcome, play, receiver_length, sender_length};
-use crate::status::{Outcome, Status, outcome_of};
 use crate::steps::print_text;
-use crate::values::{counts_of, seed_of};
 use itoa::Buffer;
 use psi_base::{NoMemory, USUAL_STASH, Words, World, bins, rows};
 use psi_deal::{ReceiverDeal, SenderDeal, deal};
 use psi_items::{Items, MadeFile, make_file};
+use psi_texts::Status;
+use psi_words::{Command, counts_of, seed_of, word_at};
 use std::alloc::{AllocError, Global};
 
 /// How large a session was.

@@ -11,8 +11,8 @@ ghost use Rattle.psi_top.specs.Twin.{PlacesAnd, files_of_words, second_end, twin
 ghost use Rattle.psi_top.specs.Walk.{Runs, Settles, status_of};
 
 use crate::hiding::twin_files;
+use crate::outcome::{Outcome, outcome_of};
 use crate::placing::place_items;
-use crate::status::{Outcome, Status, outcome_of};
 use crate::steps::{read_items, read_receiver_deal, read_sender_deal, status, write_word};
 use psi_base::{Words, World, rows};
 use psi_bits::Rows;
@@ -20,6 +20,7 @@ use psi_cuckoo::Placement;
 use psi_deal::{ReceiverDeal, SenderDeal, deals_differ};
 use psi_items::Items;
 use psi_receiver::row_words;
+use psi_texts::Status;
 use std::alloc::Global;
 
 // Judges whether the deals are a pair, and both lists have one number of items.

@@ -1,6 +1,6 @@
 use Rattle.std.proofs.Common.{◌∙◌, ap}
-use Rattle.psi_top.specs.Words.{are_sizes, is_seed, is_session}
-use Rattle.psi_top.proofs.DealWords.{deal_words}
+use Rattle.psi_words.specs.Words.{are_sizes, is_seed, is_session}
+use Rattle.psi_words.proofs.DealWords.{deal_words}
 use Rattle.psi_top.proofs.deal.named_deals.Goals as goal
 
 pub seed_of-seed-requires : goal.seed_of-seed-requires

@@ -1,6 +1,6 @@
 use Rattle.std.proofs.Common.{◌∙◌, ap}
-use Rattle.psi_top.specs.Words.{are_sizes, is_seed, is_session}
-use Rattle.psi_top.proofs.LocalWords.{local_words}
+use Rattle.psi_words.specs.Words.{are_sizes, is_seed, is_session}
+use Rattle.psi_words.proofs.LocalWords.{local_words}
 use Rattle.psi_top.proofs.local.local_deals.Goals as goal
 
 pub seed_of-seed-requires : goal.seed_of-seed-requires

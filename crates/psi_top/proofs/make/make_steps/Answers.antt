@@ -1,6 +1,6 @@
 use Rattle.std.proofs.Common.{◌∙◌, ap, ap₂}
-use Rattle.psi_top.specs.Words.{is_part, is_session}
-use Rattle.psi_top.proofs.MakeWords.{make_words}
+use Rattle.psi_words.specs.Words.{is_part, is_session}
+use Rattle.psi_words.proofs.MakeWords.{make_words}
 use Rattle.psi_top.proofs.make.make_steps.Goals as goal
 
 pub counts_of-count-requires : goal.counts_of-count-requires

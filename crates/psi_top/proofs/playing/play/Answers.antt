@@ -1,4 +1,4 @@
-use Rattle.std.proofs.Common.{◌∙◌, [], Option, ap, arith, length}
+use Rattle.std.proofs.Common.{[], Option, ap, arith, length}
 use Rattle.psi_log.specs.Recording.{RecorderState}
 use Rattle.psi_sender.specs.Running.{SenderState}
 use Rattle.psi_session.proofs.Exchanged.{few_placed}

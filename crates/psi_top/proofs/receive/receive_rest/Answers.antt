@@ -8,8 +8,8 @@ use Rattle.psi_receiver.specs.Laws.{receiver_dialogue}
 use Rattle.psi_top.specs.Receive.{receive_rest, shows_and_keeps}
 use Rattle.psi_top.specs.Tree.{ends, stopped, talks}
 use Rattle.psi_top.specs.Walk.{Runs, status_of}
-use Rattle.psi_top.specs.declared.status.Status.{Status}
-use Rattle.psi_top.specs.declared.status.Status.TheVariants as status
+use Rattle.psi_texts.specs.declared.status.Status.{Status}
+use Rattle.psi_texts.specs.declared.status.Status.TheVariants as status
 use Rattle.psi_top.proofs.Heard.{session_on}
 use Rattle.psi_spec.proofs.Placing.{length-placed_of}
 use Rattle.psi_top.proofs.Walks.{starves}

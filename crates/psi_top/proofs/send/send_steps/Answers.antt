@@ -4,7 +4,7 @@ use Rattle.psi_top.specs.Files.{reads_sender}
 use Rattle.psi_top.specs.Send.{send_rest}
 use Rattle.psi_top.specs.Tree.{ended, ends, talks}
 use Rattle.psi_top.specs.Walk.{Follows}
-use Rattle.psi_top.specs.declared.status.Outcome.{Outcome}
+use Rattle.psi_top.specs.declared.outcome.Outcome.{Outcome}
 use Rattle.psi_top.proofs.Walks.{ends_done, talked_on}
 use Rattle.psi_top.proofs.send.send_steps.Goals as goal
 

@@ -1,6 +1,6 @@
 use Rattle.std.proofs.Common.{◌∙◌, ap}
-use Rattle.psi_top.specs.Words.{is_seed}
-use Rattle.psi_top.proofs.MakeWords.{trial_words}
+use Rattle.psi_words.specs.Words.{is_seed}
+use Rattle.psi_words.proofs.MakeWords.{trial_words}
 use Rattle.psi_top.proofs.trial.trial_deals.Goals as goal
 
 pub seed_of-seed-requires : goal.seed_of-seed-requires

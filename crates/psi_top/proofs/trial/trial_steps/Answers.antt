@@ -1,6 +1,6 @@
 use Rattle.std.proofs.Common.{◌∙◌, ap₂}
-use Rattle.psi_top.specs.Words.{is_part}
-use Rattle.psi_top.proofs.MakeWords.{trial_words}
+use Rattle.psi_words.specs.Words.{is_part}
+use Rattle.psi_words.proofs.MakeWords.{trial_words}
 use Rattle.psi_top.proofs.trial.trial_steps.Goals as goal
 
 pub counts_of-count-requires : goal.counts_of-count-requires

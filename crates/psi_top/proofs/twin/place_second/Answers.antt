@@ -8,7 +8,7 @@ use Rattle.psi_top.specs.Receive.{placing_of}
 use Rattle.psi_top.specs.Tree.{Tree, ends, places, stopped}
 use Rattle.psi_top.specs.Twin.{files_of_words, second_end}
 use Rattle.psi_top.specs.Walk.{Runs, status_of}
-use Rattle.psi_top.specs.declared.status.Status.{Status}
+use Rattle.psi_texts.specs.declared.status.Status.{Status}
 use Rattle.psi_top.proofs.TwinSteps.{then_ended}
 use Rattle.psi_top.proofs.Walks.{places_out}
 use Rattle.psi_top.proofs.twin.place_second.Goals as goal

@@ -7,8 +7,8 @@ use Rattle.psi_spec.specs.Streams.{columns_stream}
 use Rattle.psi_top.specs.Tree.{ends, stopped}
 use Rattle.psi_top.specs.Twin.{dealt_for, files_of_words}
 use Rattle.psi_top.specs.Walk.{Runs, status_of}
-use Rattle.psi_top.specs.declared.status.Status.{Status}
-use Rattle.psi_top.specs.declared.status.Status.TheVariants as status
+use Rattle.psi_texts.specs.declared.status.Status.{Status}
+use Rattle.psi_texts.specs.declared.status.Status.TheVariants as status
 use Rattle.psi_top.proofs.TwinSteps.{both_written}
 use Rattle.psi_top.proofs.Walks.{starves}
 use Rattle.psi_top.proofs.twin.write_files.Goals as goal

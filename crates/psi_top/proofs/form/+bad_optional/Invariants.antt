@@ -1,5 +1,0 @@
-use Rattle.std.proofs.Common.{length}
-use Rattle.psi_top.proofs.form.+bad_optional.Given as goal
-
-abbrev pub decreases-bad_optional : goal.decreases-bad_optional
-decreases-bad_optional l = length l.forms.now

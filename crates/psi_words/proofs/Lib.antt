@@ -1,0 +1,6 @@
+pub mod DealWords
+pub mod Forms
+pub mod LocalWords
+pub mod MakeWords
+pub mod NamedWords
+pub mod WordValues
