@@ -1,4 +1,4 @@
-// The digests of four messages.
+// The digests of eight messages.
 ghost use Rattle.std.specs.Prelude.{◌≡◌, ◌<◌, ◌≤◌, ◌+◌, ◌*◌, ℕ, List, [], length, slice_index_or};
 ghost use Rattle.sha2.specs.Sha256.{initial_hash_256, digest_bytes};
 ghost use Rattle.psi_lanes.specs.Lanes.{AreLanes, lane};
@@ -7,23 +7,23 @@ ghost use Rattle.psi_lanes.specs.Digests.{AreDigests};
 use crate::constants::INITIAL;
 use crate::rounds::{State, compress};
 use crate::schedules::first_words;
-use std::simd::u32x4;
+use std::simd::u32x8;
 
 /// The initial hash value of each message.
 #[inline(always)]
 pub(crate) fn initial() -> State
     ensures lanes { AreLanes 8 result }
-    ensures value { (j : ℕ) → j < 4 → lane j result ≡ initial_hash_256 }
+    ensures value { (j : ℕ) → j < 8 → lane j result ≡ initial_hash_256 }
 {
     [
-        u32x4::splat(INITIAL[0]),
-        u32x4::splat(INITIAL[1]),
-        u32x4::splat(INITIAL[2]),
-        u32x4::splat(INITIAL[3]),
-        u32x4::splat(INITIAL[4]),
-        u32x4::splat(INITIAL[5]),
-        u32x4::splat(INITIAL[6]),
-        u32x4::splat(INITIAL[7]),
+        u32x8::splat(INITIAL[0]),
+        u32x8::splat(INITIAL[1]),
+        u32x8::splat(INITIAL[2]),
+        u32x8::splat(INITIAL[3]),
+        u32x8::splat(INITIAL[4]),
+        u32x8::splat(INITIAL[5]),
+        u32x8::splat(INITIAL[6]),
+        u32x8::splat(INITIAL[7]),
     ]
 }
 
@@ -31,7 +31,7 @@ pub(crate) fn initial() -> State
 #[inline(always)]
 fn hash_value(state: &State, j: usize) -> [u32; 8]
     requires state { AreLanes 8 state.now }
-    requires j { j < 4 }
+    requires j { j < 8 }
     ensures { result ≡ lane j state.now }
 {
     [
@@ -60,21 +60,25 @@ fn digest(hash_value: [u32; 8]) -> [u8; 32]
 
 /// The digests that the hash values are.
 #[inline(always)]
-pub(crate) fn digests(state: &State) -> [[u8; 32]; 4]
+pub(crate) fn digests(state: &State) -> [[u8; 32]; 8]
     requires { AreLanes 8 state.now }
-    ensures { (j : ℕ) → j < 4 → slice_index_or result j [] ≡ digest_bytes (lane j state.now) 8 }
+    ensures { (j : ℕ) → j < 8 → slice_index_or result j [] ≡ digest_bytes (lane j state.now) 8 }
 {
     [
         digest(hash_value(state, 0)),
         digest(hash_value(state, 1)),
         digest(hash_value(state, 2)),
         digest(hash_value(state, 3)),
+        digest(hash_value(state, 4)),
+        digest(hash_value(state, 5)),
+        digest(hash_value(state, 6)),
+        digest(hash_value(state, 7)),
     ]
 }
 
-/// The digests of four messages of 56 to 119 bytes, each of which is, with its padding (5.1.1), a
+/// The digests of eight messages of 56 to 119 bytes, each of which is, with its padding (5.1.1), a
 /// first block of 64 bytes and a second one.
-pub fn digests_of_two_blocks(first: &[[u8; 64]; 4], second: &[[u8; 64]; 4]) -> [[u8; 32]; 4]
+pub fn digests_of_two_blocks(first: &[[u8; 64]; 8], second: &[[u8; 64]; 8]) -> [[u8; 32]; 8]
     ensures { AreDigests first.now second.now result }
 {
     let state = compress(&initial(), &mut first_words(first));

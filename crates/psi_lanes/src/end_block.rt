@@ -10,9 +10,9 @@ use std::marker::Model;
 
 // The message schedule of a block, in each lane (6.2.2, step 1).
 fn whole_schedule(block: &[u8; 64]) -> Schedule
-    ensures { (j : ℕ) → j < 4 → IsScheduled 64 block.now (word_list j result) }
+    ensures { (j : ℕ) → j < 8 → IsScheduled 64 block.now (word_list j result) }
 {
-    let mut words = first_words(&[*block; 4]);
+    let mut words = first_words(&[*block; 8]);
     for t in 16..64 {
         extend(&mut words, t);
     }
@@ -35,7 +35,7 @@ impl Model for EndBlock {
 
     ghost view = { λ b. b.bytes };
 
-    ghost invariant = { λ b. (j : ℕ) → j < 4 → IsScheduled 64 b.bytes (word_list j b.words) };
+    ghost invariant = { λ b. (j : ℕ) → j < 8 → IsScheduled 64 b.bytes (word_list j b.words) };
 }
 
 impl EndBlock {
@@ -49,9 +49,9 @@ impl EndBlock {
         }
     }
 
-    /// The digests of four messages, each of which is, with its padding, a first block of 64 bytes
+    /// The digests of eight messages, each of which is, with its padding, a first block of 64 bytes
     /// and this one.
-    pub fn digests(&self, first: &[[u8; 64]; 4]) -> [[u8; 32]; 4]
+    pub fn digests(&self, first: &[[u8; 64]; 8]) -> [[u8; 32]; 8]
         ensures { AreDigestsWith self.now first.now result }
     {
         let state = compress(&initial(), &mut first_words(first));

@@ -36,25 +36,27 @@ fn two_blocks(message: &[u8]) -> ([u8; 64], [u8; 64]) {
 #[test]
 fn the_example_of_the_standard_has_its_digest(rt: HostRuntime) {
     let (first, end) = two_blocks(EXAMPLE);
-    for digest in EndBlock::new(&end).digests(&[first; 4]) {
+    for digest in EndBlock::new(&end).digests(&[first; 8]) {
         assert_eq!(rt; digest, EXAMPLE_DIGEST);
     }
-    for digest in digests_of_two_blocks(&[first; 4], &[end; 4]) {
+    for digest in digests_of_two_blocks(&[first; 8], &[end; 8]) {
         assert_eq!(rt; digest, EXAMPLE_DIGEST);
     }
 }
 
 #[test]
 fn each_lane_has_the_digest_of_its_own_message(rt: HostRuntime) {
-    let messages = [[0; 92], [1; 92], [2; 92], [255; 92]];
+    let messages = [
+        [0; 92], [1; 92], [2; 92], [3; 92], [85; 92], [127; 92], [128; 92], [255; 92],
+    ];
     for length in [56, 58, 92] {
-        let mut first = [[0; 64]; 4];
-        let mut second = [[0; 64]; 4];
-        for j in 0..4 {
+        let mut first = [[0; 64]; 8];
+        let mut second = [[0; 64]; 8];
+        for j in 0..8 {
             (first[j], second[j]) = two_blocks(&messages[j][..length]);
         }
         let digests = digests_of_two_blocks(&first, &second);
-        for j in 0..4 {
+        for j in 0..8 {
             assert_eq!(rt;
                 digests[j],
                 Sha256::digest(&messages[j][..length]),
@@ -67,14 +69,16 @@ fn each_lane_has_the_digest_of_its_own_message(rt: HostRuntime) {
 #[test]
 fn a_common_end_serves_each_lane(rt: HostRuntime) {
     for length in [56, 58] {
-        let messages = [[3; 58], [5; 58], [7; 58], [9; 58]];
+        let messages = [
+            [3; 58], [5; 58], [7; 58], [9; 58], [11; 58], [13; 58], [15; 58], [17; 58],
+        ];
         let (_, end) = two_blocks(&messages[0][..length]);
-        let mut first = [[0; 64]; 4];
-        for j in 0..4 {
+        let mut first = [[0; 64]; 8];
+        for j in 0..8 {
             (first[j], _) = two_blocks(&messages[j][..length]);
         }
         let digests = EndBlock::new(&end).digests(&first);
-        for j in 0..4 {
+        for j in 0..8 {
             assert_eq!(rt;
                 digests[j],
                 Sha256::digest(&messages[j][..length]),

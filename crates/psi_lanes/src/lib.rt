@@ -1,5 +1,5 @@
 //! What is done by lanes of `std::simd`: matrices are turned and words combined, each as its plain form does; and
-//! SHA-256 (FIPS 180-4) of four messages side by side, each of 56 to 119 bytes and so of two blocks with its padding.
+//! SHA-256 (FIPS 180-4) of eight messages side by side, each of 56 to 119 bytes and so of two blocks with its padding.
 //! No call takes memory.
 #![tactic(auto)]
 

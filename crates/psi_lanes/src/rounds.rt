@@ -1,4 +1,4 @@
-// The rounds on a block of each of four messages (6.2.2).
+// The rounds on a block of each of eight messages (6.2.2).
 ghost use Rattle.std.specs.Prelude.{◌≡◌, ◌<◌, ◌≤◌, ◌+◌, ◌*◌, ℕ, List, length, slice_index};
 ghost use Rattle.sha2.specs.Sha256.{round as round_of, rounds, schedule, compress as compress_of, add_state as add_state_of};
 ghost use Rattle.psi_lanes.specs.Lanes.{AreLanes, lane};
@@ -7,24 +7,24 @@ ghost use Rattle.psi_lanes.specs.Rounds.{IsScheduled, IsAfterRounds, word_list};
 use crate::constants::ROUND_CONSTANTS;
 use crate::operators::{add, big_sigma0, big_sigma1, ch, maj};
 use crate::schedules::{Schedule, extend};
-use std::simd::u32x4;
+use std::simd::u32x8;
 
-/// The eight words of four hash values, or the working variables a to h of four blocks.
-pub(crate) type State = [u32x4; 8];
+/// The eight words of eight hash values, or the working variables a to h of eight blocks.
+pub(crate) type State = [u32x8; 8];
 
 // One round, with its constant and its word of each schedule (step 3).
 #[inline(always)]
-fn round(v: State, constant: u32, word: u32x4) -> State
+fn round(v: State, constant: u32, word: u32x8) -> State
     requires v { AreLanes 8 v }
-    requires word { length word ≡ 4 }
+    requires word { length word ≡ 8 }
     ensures lanes { AreLanes 8 result }
-    ensures value { (j : ℕ) → j < 4 → lane j result ≡ round_of (lane j v) constant (slice_index word j) }
+    ensures value { (j : ℕ) → j < 8 → lane j result ≡ round_of (lane j v) constant (slice_index word j) }
 {
     let [a, b, c, d, e, f, g, h] = v;
     let temp1 = add(
         add(
             add(add(h, big_sigma1(e)), ch(e, f, g)),
-            u32x4::splat(constant),
+            u32x8::splat(constant),
         ),
         word,
     );
@@ -38,7 +38,7 @@ fn round_at(v: State, w: &Schedule, t: usize) -> State
     requires v { AreLanes 8 v }
     requires t { t < 64 }
     ensures lanes { AreLanes 8 result }
-    ensures value { (j : ℕ) → j < 4 → (b h : List ℕ) → IsScheduled (t + 1) b (word_list j w.now)
+    ensures value { (j : ℕ) → j < 8 → (b h : List ℕ) → IsScheduled (t + 1) b (word_list j w.now)
         → lane j v ≡ rounds h (schedule b 48) t → lane j result ≡ rounds h (schedule b 48) (t + 1) }
 {
     round(v, ROUND_CONSTANTS[t], w[t].lanes)
@@ -50,7 +50,7 @@ fn step(v: State, w: &mut Schedule, t: usize) -> State
     requires v { AreLanes 8 v }
     requires t { t < 48 }
     ensures lanes { AreLanes 8 result }
-    ensures value { (j : ℕ) → j < 4 → (b h : List ℕ) → IsAfterRounds b h (word_list j w.old) (lane j v) t
+    ensures value { (j : ℕ) → j < 8 → (b h : List ℕ) → IsAfterRounds b h (word_list j w.old) (lane j v) t
         → IsAfterRounds b h (word_list j w.new) (lane j result) (t + 1) }
 {
     extend(w, t + 16);
@@ -63,7 +63,7 @@ fn four_steps(v: State, w: &mut Schedule, t: usize) -> State
     requires v { AreLanes 8 v }
     requires t { t + 4 ≤ 48 }
     ensures lanes { AreLanes 8 result }
-    ensures value { (j : ℕ) → j < 4 → (b h : List ℕ) → IsAfterRounds b h (word_list j w.old) (lane j v) t
+    ensures value { (j : ℕ) → j < 8 → (b h : List ℕ) → IsAfterRounds b h (word_list j w.old) (lane j v) t
         → IsAfterRounds b h (word_list j w.new) (lane j result) (t + 4) }
 {
     let v = step(v, w, t);
@@ -78,7 +78,7 @@ fn four_rounds(v: State, w: &Schedule, t: usize) -> State
     requires v { AreLanes 8 v }
     requires t { t + 4 ≤ 64 }
     ensures lanes { AreLanes 8 result }
-    ensures value { (j : ℕ) → j < 4 → (b h : List ℕ) → IsScheduled 64 b (word_list j w.now)
+    ensures value { (j : ℕ) → j < 8 → (b h : List ℕ) → IsScheduled 64 b (word_list j w.now)
         → lane j v ≡ rounds h (schedule b 48) t → lane j result ≡ rounds h (schedule b 48) (t + 4) }
 {
     let v = round_at(v, w, t);
@@ -93,7 +93,7 @@ fn add_state(h: &State, v: &State) -> State
     requires h { AreLanes 8 h.now }
     requires v { AreLanes 8 v.now }
     ensures lanes { AreLanes 8 result }
-    ensures value { (j : ℕ) → j < 4 → lane j result ≡ add_state_of (lane j h.now) (lane j v.now) }
+    ensures value { (j : ℕ) → j < 8 → lane j result ≡ add_state_of (lane j h.now) (lane j v.now) }
 {
     [
         add(h[0], v[0]),
@@ -115,7 +115,7 @@ fn finished(h: &State, v: &State, w: &Schedule, turns: usize) -> State
     requires v { AreLanes 8 v.now }
     requires turns { turns ≤ 16 }
     ensures lanes { AreLanes 8 result }
-    ensures value { (j : ℕ) → j < 4 → (b : List ℕ) → IsScheduled 64 b (word_list j w.now)
+    ensures value { (j : ℕ) → j < 8 → (b : List ℕ) → IsScheduled 64 b (word_list j w.now)
         → lane j v.now ≡ rounds (lane j h.now) (schedule b 48) (4 * turns)
         → lane j result ≡ compress_of (lane j h.now) b }
 {
@@ -131,7 +131,7 @@ fn finished(h: &State, v: &State, w: &Schedule, turns: usize) -> State
 pub(crate) fn compress(h: &State, w: &mut Schedule) -> State
     requires h { AreLanes 8 h.now }
     ensures lanes { AreLanes 8 result }
-    ensures value { (j : ℕ) → j < 4 → (b : List ℕ) → IsScheduled 16 b (word_list j w.old)
+    ensures value { (j : ℕ) → j < 8 → (b : List ℕ) → IsScheduled 16 b (word_list j w.old)
         → lane j result ≡ compress_of (lane j h.now) b }
 {
     let mut v = *h;
@@ -145,7 +145,7 @@ pub(crate) fn compress(h: &State, w: &mut Schedule) -> State
 pub(crate) fn compress_scheduled(h: &State, w: &Schedule) -> State
     requires h { AreLanes 8 h.now }
     ensures lanes { AreLanes 8 result }
-    ensures value { (j : ℕ) → j < 4 → (b : List ℕ) → IsScheduled 64 b (word_list j w.now)
+    ensures value { (j : ℕ) → j < 8 → (b : List ℕ) → IsScheduled 64 b (word_list j w.now)
         → lane j result ≡ compress_of (lane j h.now) b }
 {
     finished(h, h, w, 0)

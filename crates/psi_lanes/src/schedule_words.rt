@@ -1,12 +1,12 @@
 // The words of message schedules.
 ghost use Rattle.std.specs.Prelude.{◌≡◌, length};
 
-use std::simd::u32x4;
+use std::simd::u32x8;
 
-/// A word of the message schedule of each of four blocks. It is a struct of its own so that an
+/// A word of the message schedule of each of eight blocks. It is a struct of its own so that an
 /// `EndBlock` can hold an array of them.
 #[derive(Clone, Copy)]
 pub(crate) struct ScheduleWord {
-    pub(crate) lanes: u32x4,
-    ghost four: { length lanes ≡ 4 },
+    pub(crate) lanes: u32x8,
+    ghost eight: { length lanes ≡ 8 },
 }

@@ -1,13 +1,13 @@
-// The message schedules of four blocks (6.2.2, step 1).
+// The message schedules of eight blocks (6.2.2, step 1).
 ghost use Rattle.std.specs.Prelude.{◌≡◌, ◌<◌, ◌≤◌, ◌+◌, ◌*◌, ℕ, List, [], length, slice_index, slice_index_or};
 ghost use Rattle.sha2.specs.Sha256.{word_at as word_at_of};
 ghost use Rattle.psi_lanes.specs.Rounds.{IsScheduled, word_list};
 
 use crate::operators::{add, small_sigma0, small_sigma1};
 use crate::schedule_words::ScheduleWord;
-use std::simd::u32x4;
+use std::simd::u32x8;
 
-/// The message schedules of four blocks, W 0 to W 63.
+/// The message schedules of eight blocks, W 0 to W 63.
 pub(crate) type Schedule = [ScheduleWord; 64];
 
 // The word at byte `at` of a block (5.2.1).
@@ -21,26 +21,30 @@ fn word_at(block: &[u8; 64], at: usize) -> u32
 
 // The word at byte `at` of each block.
 #[inline(always)]
-fn words_at(blocks: &[[u8; 64]; 4], at: usize) -> u32x4
+fn words_at(blocks: &[[u8; 64]; 8], at: usize) -> u32x8
     requires { at + 4 ≤ 64 }
-    ensures length { length result ≡ 4 }
-    ensures value { (j : ℕ) → j < 4 → slice_index result j ≡ word_at_of (slice_index_or blocks.now j []) at }
+    ensures length { length result ≡ 8 }
+    ensures value { (j : ℕ) → j < 8 → slice_index result j ≡ word_at_of (slice_index_or blocks.now j []) at }
 {
-    u32x4::from_array([
+    u32x8::from_array([
         word_at(&blocks[0], at),
         word_at(&blocks[1], at),
         word_at(&blocks[2], at),
         word_at(&blocks[3], at),
+        word_at(&blocks[4], at),
+        word_at(&blocks[5], at),
+        word_at(&blocks[6], at),
+        word_at(&blocks[7], at),
     ])
 }
 
 /// Schedules that have the first 16 words of each block, with zeros behind them.
 #[inline(always)]
-pub(crate) fn first_words(blocks: &[[u8; 64]; 4]) -> Schedule
-    ensures { (j : ℕ) → j < 4 → IsScheduled 16 (slice_index_or blocks.now j []) (word_list j result) }
+pub(crate) fn first_words(blocks: &[[u8; 64]; 8]) -> Schedule
+    ensures { (j : ℕ) → j < 8 → IsScheduled 16 (slice_index_or blocks.now j []) (word_list j result) }
 {
     let mut words = [ScheduleWord {
-        lanes: u32x4::splat(0),
+        lanes: u32x8::splat(0),
     }; 64];
     for i in 0..16 {
         words[i] = ScheduleWord {
@@ -55,7 +59,7 @@ pub(crate) fn first_words(blocks: &[[u8; 64]; 4]) -> Schedule
 pub(crate) fn extend(w: &mut Schedule, t: usize)
     requires low { 16 ≤ t }
     requires high { t < 64 }
-    ensures { (j : ℕ) → j < 4 → (b : List ℕ) →
+    ensures { (j : ℕ) → j < 8 → (b : List ℕ) →
         IsScheduled t b (word_list j w.old) → IsScheduled (t + 1) b (word_list j w.new) }
 {
     let lanes = add(

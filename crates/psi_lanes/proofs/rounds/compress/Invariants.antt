@@ -7,5 +7,5 @@ use Rattle.psi_lanes.proofs.rounds.compress.Given as goal
 abbrev pub invariant-loop-turn : goal.invariant-loop-turn
 invariant-loop-turn l = record {
   lanes : AreLanes 8 l.v;
-  value : (j : ℕ) → j < 4 → (b : List ℕ) → IsScheduled 16 b (word_list j l.fn.w) → IsAfterRounds b (lane j l.h) (word_list j l.w) (lane j l.v) (4 * l.turn);
+  value : (j : ℕ) → j < 8 → (b : List ℕ) → IsScheduled 16 b (word_list j l.fn.w) → IsAfterRounds b (lane j l.h) (word_list j l.w) (lane j l.v) (4 * l.turn);
 }

@@ -8,7 +8,7 @@ pub returns-clause-value : goal.returns-clause-value
 returns-clause-value c j lt =
     let v = c.args.v in
     let at : (i : ℕ) → i < 8 → slice_index (lane j v) i ≡ slice_index (slice_index_or v i []) j = λ i l. lane-at j i v (rw c.requires.v.0 l) in
-    let constant = get_or-replicate 4 j c.args.constant 0 lt in
+    let constant = get_or-replicate 8 j c.args.constant 0 lt in
     rw (at 0 (omega arith), at 1 (omega arith), at 2 (omega arith), at 3 (omega arith), at 4 (omega arith), at 5 (omega arith), at 6 (omega arith), at 7 (omega arith))
     (rw (
       c.add-4.ensures.1 j lt,

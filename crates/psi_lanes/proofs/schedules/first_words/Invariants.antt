@@ -7,5 +7,5 @@ use Rattle.psi_lanes.proofs.schedules.first_words.Given as goal
 abbrev pub invariant-loop-i : goal.invariant-loop-i
 invariant-loop-i l = record {
   long : length l.words ≡ 64;
-  value : (j k : ℕ) → j < 4 → k < l.i → slice_index (word_list j l.words) k ≡ word_at (slice_index_or l.blocks j []) (4 * k);
+  value : (j k : ℕ) → j < 8 → k < l.i → slice_index (word_list j l.words) k ≡ word_at (slice_index_or l.blocks j []) (4 * k);
 }
