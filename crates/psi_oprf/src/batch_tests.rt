@@ -7,8 +7,10 @@ const KEY: [u8; 16] = [
     0xbd, 0xd2, 0x19, 0xb8, 0xa0, 0x8d, 0xed, 0x1a, 0xa8, 0x36, 0xef, 0xcc, 0x8b, 0x77, 0x0d, 0xc7,
 ];
 
-const DIGESTS: [[u8; 32]; 9] = [
-    [0; 32], [1; 32], [2; 32], [3; 32], [4; 32], [5; 32], [6; 32], [7; 32], [8; 32],
+// Two eights and one more.
+const DIGESTS: [[u8; 32]; 17] = [
+    [0; 32], [1; 32], [2; 32], [3; 32], [4; 32], [5; 32], [6; 32], [7; 32], [8; 32], [9; 32],
+    [10; 32], [11; 32], [12; 32], [13; 32], [14; 32], [15; 32], [16; 32],
 ];
 
 // How both halves begin of the codes at index 1 of the first five digests.
@@ -46,8 +48,8 @@ const TAGS: [Tag; 5] = [
 
 #[test]
 fn codes_begin_as_computed_elsewhere(rt: HostRuntime) {
-    let mut words = [Word512::zero(); 5];
-    codes(&KEY, 1, &DIGESTS[..5], &mut words);
+    let mut words = [Word512::zero(); 8];
+    codes(&KEY, 1, &DIGESTS[..8], &mut words);
     for (word, want) in words.iter().zip(&CODES) {
         let bytes = word.to_bytes();
         assert_eq!(rt; &bytes[..4], &want[..4]);
@@ -63,17 +65,20 @@ fn tags_are_as_computed_elsewhere(rt: HostRuntime) {
         Word512::from_bytes(&[2; 64]),
         Word512::from_bytes(&[3; 64]),
         Word512::from_bytes(&[4; 64]),
+        Word512::from_bytes(&[5; 64]),
+        Word512::from_bytes(&[6; 64]),
+        Word512::from_bytes(&[7; 64]),
     ];
-    let mut out = [[0; 16]; 5];
-    tags(&KEY, 16, &[5, 6, 7, 8, 9], &words, &mut out);
-    assert_eq!(rt; out, TAGS);
+    let mut out = [[0; 16]; 8];
+    tags(&KEY, 16, &[5, 6, 7, 8, 9, 10, 11, 12], &words, &mut out);
+    assert_eq!(rt; &out[..5], TAGS.as_slice());
 }
 
 #[test]
 fn codes_of_any_length_are_the_single_calls(rt: HostRuntime) {
-    for size in 0..10usize {
+    for size in 0..18usize {
         let digests = &DIGESTS[..size];
-        let mut words = [Word512::zero(); 9];
+        let mut words = [Word512::zero(); 17];
         codes(&KEY, 2, digests, &mut words[..size]);
         for (word, digest) in words.iter().zip(digests) {
             assert_eq!(rt; *word, code(&KEY, 2, digest), "of {size}");
@@ -83,9 +88,9 @@ fn codes_of_any_length_are_the_single_calls(rt: HostRuntime) {
 
 #[test]
 fn codes_at_their_indices_are_the_single_calls(rt: HostRuntime) {
-    let indices = [3, 1, 0, 2, 2, 0, 1, 3, 3];
-    for size in 0..10usize {
-        let mut words = [Word512::zero(); 9];
+    let indices = [3, 1, 0, 2, 2, 0, 1, 3, 3, 2, 1, 0, 0, 3, 1, 2, 1];
+    for size in 0..18usize {
+        let mut words = [Word512::zero(); 17];
         codes_at(&KEY, &indices[..size], &DIGESTS[..size], &mut words[..size]);
         for i in 0..size {
             assert_eq!(rt;
@@ -99,11 +104,13 @@ fn codes_at_their_indices_are_the_single_calls(rt: HostRuntime) {
 
 #[test]
 fn tags_of_any_length_are_the_single_calls(rt: HostRuntime) {
-    let rows = [7, 0, u32::MAX, 7, 256, 65_536, 1, 2, 3];
+    let rows = [
+        7, 0, 0xffffffff, 7, 256, 65_536, 1, 2, 3, 4, 5, 6, 8, 16_777_216, 9, 10, 11,
+    ];
     let word = Word512::from_bytes(&[0x5a; 64]);
-    let words = [word; 9];
-    for size in 0..10usize {
-        let mut out = [[0; 16]; 9];
+    let words = [word; 17];
+    for size in 0..18usize {
+        let mut out = [[0; 16]; 17];
         tags(&KEY, 5, &rows[..size], &words[..size], &mut out[..size]);
         for (tag, row) in out.iter().zip(&rows[..size]) {
             assert_eq!(rt; *tag, own_tag(&KEY, 5, *row, &word), "of {size}");
@@ -113,9 +120,9 @@ fn tags_of_any_length_are_the_single_calls(rt: HostRuntime) {
 
 #[test]
 fn candidates_of_any_length_are_the_single_calls(rt: HostRuntime) {
-    for size in 0..10usize {
+    for size in 0..18usize {
         let digests = &DIGESTS[..size];
-        let mut out = [[0; 3]; 9];
+        let mut out = [[0; 3]; 17];
         candidates_of(&KEY, digests, 1000, &mut out[..size]);
         for (bins, digest) in out.iter().zip(digests) {
             assert_eq!(rt; *bins, candidates(&KEY, digest, 1000), "of {size}");

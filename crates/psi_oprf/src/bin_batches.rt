@@ -1,4 +1,4 @@
-// The bins of many digests, four side by side.
+// The bins of many digests, eight side by side.
 ghost use Rattle.std.specs.Prelude.{◌≡◌, ◌≤◌, ◌<◌, ◌%◌, All, length, map};
 ghost use Rattle.psi_oprf.specs.Candidates.{digest_candidates};
 
@@ -6,13 +6,14 @@ use crate::formulas::{bins_in, candidates};
 use crate::messages::{BINS_END, bins_block};
 use psi_lanes::EndBlock;
 
-// The bins of four digests.
-fn four_candidates(
+// The bins of eight digests.
+fn eight_candidates(
     key: &[u8; 16],
-    digests: &[[u8; 32]; 4],
+    digests: &[[u8; 32]],
     bins: u32,
     end: &EndBlock,
-) -> [[u32; 3]; 4]
+) -> [[u32; 3]; 8]
+    requires digests { length digests.now ≡ 8 }
     requires bins { 1 ≤ bins }
     requires end { end.now ≡ BINS_END }
     ensures { result ≡ map (digest_candidates key.now bins) digests.now }
@@ -22,32 +23,35 @@ fn four_candidates(
         bins_block(key, &digests[1]),
         bins_block(key, &digests[2]),
         bins_block(key, &digests[3]),
+        bins_block(key, &digests[4]),
+        bins_block(key, &digests[5]),
+        bins_block(key, &digests[6]),
+        bins_block(key, &digests[7]),
     ]);
     [
         bins_in(&hashes[0], bins),
         bins_in(&hashes[1], bins),
         bins_in(&hashes[2], bins),
         bins_in(&hashes[3], bins),
+        bins_in(&hashes[4], bins),
+        bins_in(&hashes[5], bins),
+        bins_in(&hashes[6], bins),
+        bins_in(&hashes[7], bins),
     ]
 }
 
-// Fills `out` with the bins of digests, of which there are a multiple of four.
-fn candidates_by_four(key: &[u8; 16], digests: &[[u8; 32]], bins: u32, out: &mut [[u32; 3]])
+// Fills `out` with the bins of digests, of which there are a multiple of eight.
+fn candidates_by_eight(key: &[u8; 16], digests: &[[u8; 32]], bins: u32, out: &mut [[u32; 3]])
     requires bins { 1 ≤ bins }
     requires as_many { length digests.now ≡ length out.old }
-    requires fours { length digests.now % 4 ≡ 0 }
+    requires eights { length digests.now % 8 ≡ 0 }
     ensures { out.new ≡ map (digest_candidates key.now bins) digests.now }
 {
     let end = EndBlock::new(&BINS_END);
-    for turn in 0..digests.len() / 4 {
-        let at = 4 * turn;
-        let four = [
-            digests[at],
-            digests[at + 1],
-            digests[at + 2],
-            digests[at + 3],
-        ];
-        out[at..at + 4].copy_from_slice(&four_candidates(key, &four, bins, &end));
+    for turn in 0..digests.len() / 8 {
+        let at = 8 * turn;
+        let eight = eight_candidates(key, &digests[at..at + 8], bins, &end);
+        out[at..at + 8].copy_from_slice(&eight);
     }
 }
 
@@ -70,9 +74,9 @@ pub fn candidates_of(key: &[u8; 16], digests: &[[u8; 32]], bins: u32, out: &mut 
     ensures candidates { out.new ≡ map (digest_candidates key.now bins) digests.now }
     ensures below { All (λ rows. All (λ row. row < bins) rows) out.new }
 {
-    let fours = digests.len() / 4 * 4;
-    let (digests, last_digests) = digests.split_at(fours);
-    let (out, last_out) = out.split_at_mut(fours);
-    candidates_by_four(key, digests, bins, out);
+    let eights = digests.len() / 8 * 8;
+    let (digests, last_digests) = digests.split_at(eights);
+    let (out, last_out) = out.split_at_mut(eights);
+    candidates_by_eight(key, digests, bins, out);
     candidates_by_one(key, last_digests, bins, last_out);
 }

@@ -1,4 +1,4 @@
-// Codes over whole slices, four side by side.
+// Codes over whole slices, eight side by side.
 ghost use Rattle.std.specs.Prelude.{◌≡◌, ◌≤◌, ◌<◌, ◌%◌, ◌++◌, ℕ, [], length, map, slice_index, slice_index_or, All};
 ghost use Rattle.std.specs.Simd.Lanes.{zip2};
 ghost use Rattle.psi_spec.specs.Formulas.{code as code_of, code_half};
@@ -8,17 +8,19 @@ use crate::messages::{CODE_END, code_block};
 use psi_bits::Word512;
 use psi_lanes::EndBlock;
 
-// Half `half`, 0 or 1, of the codes of four digests, each at its own index.
+// Half `half`, 0 or 1, of the codes of eight digests, each at its own index.
 #[inline(always)]
-fn four_halves(
+fn eight_halves(
     key: &[u8; 16],
-    indices: &[u8; 4],
+    indices: &[u8],
     half: u8,
-    digests: &[[u8; 32]; 4],
+    digests: &[[u8; 32]],
     end: &EndBlock,
-) -> [[u8; 32]; 4]
-    requires { end.now ≡ CODE_END }
-    ensures { (j : ℕ) → j < 4 → slice_index_or result j []
+) -> [[u8; 32]; 8]
+    requires indices { length indices.now ≡ 8 }
+    requires digests { length digests.now ≡ 8 }
+    requires end { end.now ≡ CODE_END }
+    ensures { (j : ℕ) → j < 8 → slice_index_or result j []
         ≡ code_half key.now (slice_index indices.now j) half (slice_index_or digests.now j []) }
 {
     end.digests(&[
@@ -26,6 +28,10 @@ fn four_halves(
         code_block(key, indices[1], half, &digests[1]),
         code_block(key, indices[2], half, &digests[2]),
         code_block(key, indices[3], half, &digests[3]),
+        code_block(key, indices[4], half, &digests[4]),
+        code_block(key, indices[5], half, &digests[5]),
+        code_block(key, indices[6], half, &digests[6]),
+        code_block(key, indices[7], half, &digests[7]),
     ])
 }
 
@@ -41,42 +47,38 @@ fn joined(low: &[u8; 32], high: &[u8; 32]) -> Word512
     Word512::from_bytes(&bytes)
 }
 
-// The codes of four digests, each at its own index.
-fn four_codes(
-    key: &[u8; 16],
-    indices: &[u8; 4],
-    digests: &[[u8; 32]; 4],
-    end: &EndBlock,
-) -> [Word512; 4]
-    requires { end.now ≡ CODE_END }
+// The codes of eight digests, each at its own index.
+fn eight_codes(key: &[u8; 16], indices: &[u8], digests: &[[u8; 32]], end: &EndBlock) -> [Word512; 8]
+    requires indices { length indices.now ≡ 8 }
+    requires digests { length digests.now ≡ 8 }
+    requires end { end.now ≡ CODE_END }
     ensures { result ≡ zip2 (code_of key.now) indices.now digests.now }
 {
-    let low = four_halves(key, indices, 0, digests, end);
-    let high = four_halves(key, indices, 1, digests, end);
+    let low = eight_halves(key, indices, 0, digests, end);
+    let high = eight_halves(key, indices, 1, digests, end);
     [
         joined(&low[0], &high[0]),
         joined(&low[1], &high[1]),
         joined(&low[2], &high[2]),
         joined(&low[3], &high[3]),
+        joined(&low[4], &high[4]),
+        joined(&low[5], &high[5]),
+        joined(&low[6], &high[6]),
+        joined(&low[7], &high[7]),
     ]
 }
 
-// Fills `out` with the codes of digests, of which there are a multiple of four.
-fn codes_by_four(key: &[u8; 16], index: u8, digests: &[[u8; 32]], out: &mut [Word512])
+// Fills `out` with the codes of digests, of which there are a multiple of eight.
+fn codes_by_eight(key: &[u8; 16], index: u8, digests: &[[u8; 32]], out: &mut [Word512])
     requires as_many { length digests.now ≡ length out.old }
-    requires fours { length digests.now % 4 ≡ 0 }
+    requires eights { length digests.now % 8 ≡ 0 }
     ensures { out.new ≡ map (code_of key.now index) digests.now }
 {
     let end = EndBlock::new(&CODE_END);
-    for turn in 0..digests.len() / 4 {
-        let at = 4 * turn;
-        let four = [
-            digests[at],
-            digests[at + 1],
-            digests[at + 2],
-            digests[at + 3],
-        ];
-        out[at..at + 4].copy_from_slice(&four_codes(key, &[index; 4], &four, &end));
+    for turn in 0..digests.len() / 8 {
+        let at = 8 * turn;
+        let eight = eight_codes(key, &[index; 8], &digests[at..at + 8], &end);
+        out[at..at + 8].copy_from_slice(&eight);
     }
 }
 
@@ -98,36 +100,25 @@ pub fn codes(key: &[u8; 16], index: u8, digests: &[[u8; 32]], out: &mut [Word512
     requires as_many { length digests.now ≡ length out.old }
     ensures { out.new ≡ map (code_of key.now index) digests.now }
 {
-    let fours = digests.len() / 4 * 4;
-    let (digests, last_digests) = digests.split_at(fours);
-    let (out, last_out) = out.split_at_mut(fours);
-    codes_by_four(key, index, digests, out);
+    let eights = digests.len() / 8 * 8;
+    let (digests, last_digests) = digests.split_at(eights);
+    let (out, last_out) = out.split_at_mut(eights);
+    codes_by_eight(key, index, digests, out);
     codes_by_one(key, index, last_digests, last_out);
 }
 
-// Fills `out` with the codes of digests, of which there are a multiple of four, each at its own index.
-fn codes_at_by_four(key: &[u8; 16], indices: &[u8], digests: &[[u8; 32]], out: &mut [Word512])
+// Fills `out` with the codes of digests, of which there are a multiple of eight, each at its own index.
+fn codes_at_by_eight(key: &[u8; 16], indices: &[u8], digests: &[[u8; 32]], out: &mut [Word512])
     requires indices { length indices.now ≡ length out.old }
     requires digests { length digests.now ≡ length out.old }
-    requires fours { length out.old % 4 ≡ 0 }
+    requires eights { length out.old % 8 ≡ 0 }
     ensures { out.new ≡ zip2 (code_of key.now) indices.now digests.now }
 {
     let end = EndBlock::new(&CODE_END);
-    for turn in 0..out.len() / 4 {
-        let at = 4 * turn;
-        let four_indices = [
-            indices[at],
-            indices[at + 1],
-            indices[at + 2],
-            indices[at + 3],
-        ];
-        let four_digests = [
-            digests[at],
-            digests[at + 1],
-            digests[at + 2],
-            digests[at + 3],
-        ];
-        out[at..at + 4].copy_from_slice(&four_codes(key, &four_indices, &four_digests, &end));
+    for turn in 0..out.len() / 8 {
+        let at = 8 * turn;
+        let eight = eight_codes(key, &indices[at..at + 8], &digests[at..at + 8], &end);
+        out[at..at + 8].copy_from_slice(&eight);
     }
 }
 
@@ -151,10 +142,10 @@ pub fn codes_at(key: &[u8; 16], indices: &[u8], digests: &[[u8; 32]], out: &mut 
     requires digests { length digests.now ≡ length out.old }
     ensures { out.new ≡ zip2 (code_of key.now) indices.now digests.now }
 {
-    let fours = out.len() / 4 * 4;
-    let (indices, last_indices) = indices.split_at(fours);
-    let (digests, last_digests) = digests.split_at(fours);
-    let (out, last_out) = out.split_at_mut(fours);
-    codes_at_by_four(key, indices, digests, out);
+    let eights = out.len() / 8 * 8;
+    let (indices, last_indices) = indices.split_at(eights);
+    let (digests, last_digests) = digests.split_at(eights);
+    let (out, last_out) = out.split_at_mut(eights);
+    codes_at_by_eight(key, indices, digests, out);
     codes_at_by_one(key, last_indices, last_digests, last_out);
 }

@@ -8,11 +8,11 @@ pub returns-clause-candidates : goal.returns-clause-candidates
 returns-clause-candidates c =
     let formula = digest_candidates c.args.key.now c.args.bins in
     let digests = c.args.digests.now in
-    let fours = length digests / 4 * 4 in
+    let eights = length digests / 8 * 8 in
     ap₂ (λ x y. x ++ y)
-    (c.candidates_by_four.ensures ∙ ap (map formula) c.split_at.ensures.front)
+    (c.candidates_by_eight.ensures ∙ ap (map formula) c.split_at.ensures.front)
     (c.candidates_by_one.ensures ∙ ap (map formula) c.split_at.ensures.back)
-    ∙ (sym (map-append formula (take fours digests) (drop fours digests)) ∙ ap (map formula) (take-append-drop fours digests))
+    ∙ (sym (map-append formula (take eights digests) (drop eights digests)) ∙ ap (map formula) (take-append-drop eights digests))
 
 pub returns-clause-below : goal.returns-clause-below
 returns-clause-below c =

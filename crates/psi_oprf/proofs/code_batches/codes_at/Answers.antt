@@ -10,10 +10,10 @@ returns c =
     let formula = code c.args.key.now in
     let indices = c.args.indices.now in
     let digests = c.args.digests.now in
-    let fours = length c.args.out.now / 4 * 4 in
-    let as_many : length (take fours indices) ≡ length (take fours digests) = length-take-le fours indices (omega arith) ∙ sym (length-take-le fours digests (omega arith)) in
-    let first = c.codes_at_by_four.ensures ∙ ap₂ (zip2 formula) c.split_at.ensures.front c.split_at-2.ensures.front in
+    let eights = length c.args.out.now / 8 * 8 in
+    let as_many : length (take eights indices) ≡ length (take eights digests) = length-take-le eights indices (omega arith) ∙ sym (length-take-le eights digests (omega arith)) in
+    let first = c.codes_at_by_eight.ensures ∙ ap₂ (zip2 formula) c.split_at.ensures.front c.split_at-2.ensures.front in
     let last = c.codes_at_by_one.ensures ∙ ap₂ (zip2 formula) c.split_at.ensures.back c.split_at-2.ensures.back in
     ap₂ (λ x y. x ++ y) first last
-    ∙ (sym (zip2-append formula (take fours indices) (drop fours indices) (take fours digests) (drop fours digests) as_many)
-    ∙ ap₂ (zip2 formula) (take-append-drop fours indices) (take-append-drop fours digests))
+    ∙ (sym (zip2-append formula (take eights indices) (drop eights indices) (take eights digests) (drop eights digests) as_many)
+    ∙ ap₂ (zip2 formula) (take-append-drop eights indices) (take-append-drop eights digests))

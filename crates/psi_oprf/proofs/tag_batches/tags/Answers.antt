@@ -10,10 +10,10 @@ returns c =
     let formula = padded_tag c.args.key.now c.args.width in
     let rows = c.args.rows.now in
     let words = c.args.words.now in
-    let fours = length c.args.out.now / 4 * 4 in
-    let as_many : length (take fours rows) ≡ length (take fours words) = length-take-le fours rows (omega arith) ∙ sym (length-take-le fours words (omega arith)) in
-    let first = c.tags_by_four.ensures ∙ ap₂ (zip2 formula) c.split_at.ensures.front c.split_at-2.ensures.front in
+    let eights = length c.args.out.now / 8 * 8 in
+    let as_many : length (take eights rows) ≡ length (take eights words) = length-take-le eights rows (omega arith) ∙ sym (length-take-le eights words (omega arith)) in
+    let first = c.tags_by_eight.ensures ∙ ap₂ (zip2 formula) c.split_at.ensures.front c.split_at-2.ensures.front in
     let last = c.tags_by_one.ensures ∙ ap₂ (zip2 formula) c.split_at.ensures.back c.split_at-2.ensures.back in
     ap₂ (λ x y. x ++ y) first last
-    ∙ (sym (zip2-append formula (take fours rows) (drop fours rows) (take fours words) (drop fours words) as_many)
-    ∙ ap₂ (zip2 formula) (take-append-drop fours rows) (take-append-drop fours words))
+    ∙ (sym (zip2-append formula (take eights rows) (drop eights rows) (take eights words) (drop eights words) as_many)
+    ∙ ap₂ (zip2 formula) (take-append-drop eights rows) (take-append-drop eights words))
