@@ -6,7 +6,8 @@ ghost use Rattle.psi_lanes.specs.Digests.{AreDigests};
 
 use crate::constants::INITIAL;
 use crate::rounds::{State, compress};
-use crate::schedules::first_words;
+use crate::schedule_words::ScheduleWord;
+use crate::schedules::write_first_words;
 use std::simd::u32x8;
 
 /// The initial hash value of each message.
@@ -81,7 +82,9 @@ pub(crate) fn digests(state: &State) -> [[u8; 32]; 8]
 pub fn digests_of_two_blocks(first: &[[u8; 64]; 8], second: &[[u8; 64]; 8]) -> [[u8; 32]; 8]
     ensures { AreDigests first.now second.now result }
 {
-    let state = compress(&initial(), &mut first_words(first));
-    let state = compress(&state, &mut first_words(second));
-    digests(&state)
+    let mut words = [ScheduleWord::zero(); 64];
+    write_first_words(first, &mut words);
+    let state = compress(&initial(), &mut words);
+    write_first_words(second, &mut words);
+    digests(&compress(&state, &mut words))
 }

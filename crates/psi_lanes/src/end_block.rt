@@ -5,14 +5,16 @@ ghost use Rattle.psi_lanes.specs.Digests.{AreDigestsWith};
 
 use crate::digests::{digests, initial};
 use crate::rounds::{compress, compress_scheduled};
-use crate::schedules::{Schedule, extend, first_words};
+use crate::schedule_words::ScheduleWord;
+use crate::schedules::{Schedule, extend, write_first_words};
 use std::marker::Model;
 
 // The message schedule of a block, in each lane (6.2.2, step 1).
 fn whole_schedule(block: &[u8; 64]) -> Schedule
     ensures { (j : ℕ) → j < 8 → IsScheduled 64 block.now (word_list j result) }
 {
-    let mut words = first_words(&[*block; 8]);
+    let mut words = [ScheduleWord::zero(); 64];
+    write_first_words(&[*block; 8], &mut words);
     for t in 16..64 {
         extend(&mut words, t);
     }
@@ -54,7 +56,9 @@ impl EndBlock {
     pub fn digests(&self, first: &[[u8; 64]; 8]) -> [[u8; 32]; 8]
         ensures { AreDigestsWith self.now first.now result }
     {
-        let state = compress(&initial(), &mut first_words(first));
+        let mut words = [ScheduleWord::zero(); 64];
+        write_first_words(first, &mut words);
+        let state = compress(&initial(), &mut words);
         digests(&compress_scheduled(&state, &self.words))
     }
 }

@@ -1,5 +1,5 @@
 // The words of message schedules.
-ghost use Rattle.std.specs.Prelude.{◌≡◌, length};
+ghost use Rattle.std.specs.Prelude.{◌≡◌, length, replicate};
 
 use std::simd::u32x8;
 
@@ -9,4 +9,16 @@ use std::simd::u32x8;
 pub(crate) struct ScheduleWord {
     pub(crate) lanes: u32x8,
     ghost eight: { length lanes ≡ 8 },
+}
+
+impl ScheduleWord {
+    /// Zeros, for room that is to be written over.
+    #[inline(always)]
+    pub(crate) fn zero() -> ScheduleWord
+        ensures { result.lanes ≡ replicate 8 0 }
+    {
+        ScheduleWord {
+            lanes: u32x8::splat(0),
+        }
+    }
 }

@@ -38,20 +38,16 @@ fn words_at(blocks: &[[u8; 64]; 8], at: usize) -> u32x8
     ])
 }
 
-/// Schedules that have the first 16 words of each block, with zeros behind them.
+/// Writes the first 16 words of each block to the front of schedules.
 #[inline(always)]
-pub(crate) fn first_words(blocks: &[[u8; 64]; 8]) -> Schedule
-    ensures { (j : ℕ) → j < 8 → IsScheduled 16 (slice_index_or blocks.now j []) (word_list j result) }
+pub(crate) fn write_first_words(blocks: &[[u8; 64]; 8], words: &mut Schedule)
+    ensures { (j : ℕ) → j < 8 → IsScheduled 16 (slice_index_or blocks.now j []) (word_list j words.new) }
 {
-    let mut words = [ScheduleWord {
-        lanes: u32x8::splat(0),
-    }; 64];
     for i in 0..16 {
         words[i] = ScheduleWord {
             lanes: words_at(blocks, 4 * i),
         };
     }
-    words
 }
 
 /// Writes word `t` of the schedules, which the words before it give (step 1).

@@ -8,6 +8,6 @@ pub returns : goal.returns
 returns c j lt m is =
     let first = slice_index_or c.args.first.now j [] in
     let end = c.self.inside.bytes in
-    let once = c.compress-state.ensures.value j lt first (c.first_words.ensures j lt) ∙ ap (λ h. compress h first) (c.initial.ensures.value j lt) in
+    let once = c.compress-state.ensures.value j lt first (c.write_first_words.ensures j lt) ∙ ap (λ h. compress h first) (c.initial.ensures.value j lt) in
     let twice = c.compress_scheduled.ensures.value j lt end (c.self.invariant j lt) ∙ ap (λ h. compress h end) once in
     c.digests.ensures j lt ∙ (ap (λ h. digest_bytes h 8) twice ∙ sym (sha256-two_blocks m first end (subst (λ b. IsTwoBlocks m first b) (sym c.self.view_is) is)))

@@ -1,7 +1,7 @@
 use Rattle.std.proofs.Common.{◌≡◌, ◌<◌, ◌*◌, ℕ, [], length, slice_index, slice_index_or}
 use Rattle.sha2.specs.Sha256.{word_at}
 use Rattle.psi_lanes.specs.Rounds.{word_list}
-use Rattle.psi_lanes.proofs.schedules.first_words.Given as goal
+use Rattle.psi_lanes.proofs.schedules.write_first_words.Given as goal
 
 -- the words so far are those of the blocks
 abbrev pub invariant-loop-i : goal.invariant-loop-i

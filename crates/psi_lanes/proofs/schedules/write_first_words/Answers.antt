@@ -4,7 +4,7 @@ use Rattle.sha2.specs.Sha256.{word_at}
 use Rattle.sha2.proofs.Schedule256.{slice_index-schedule_first}
 use Rattle.psi_lanes.specs.Rounds.{word_list}
 use Rattle.psi_lanes.proofs.Scheduling.{length-word_list, more_words, word_list-set}
-use Rattle.psi_lanes.proofs.schedules.first_words.Goals as goal
+use Rattle.psi_lanes.proofs.schedules.write_first_words.Goals as goal
 
 pub loop-i-preserved : goal.loop-i-preserved
 loop-i-preserved c =
