@@ -1,4 +1,4 @@
-use Rattle.std.proofs.Common.{◌≡◌, ◌<◌, ◌/◌, ◌*◌, ◌++◌, ◌∙◌, All, List, ℕ, length, map, take, drop, sym, ap, ap₂, subst}
+use Rattle.std.proofs.Common.{◌<◌, ◌/◌, ◌*◌, ◌++◌, ◌∙◌, All, List, ℕ, length, map, take, drop, sym, ap, ap₂, subst}
 use Rattle.std.proofs.lemmas.List.{map-append, take-append-drop}
 use Rattle.psi_oprf.specs.Candidates.{digest_candidates}
 use Rattle.psi_oprf.proofs.Bins.{candidates_within}
