@@ -6,7 +6,7 @@ use std::test::Fail;
 const ONE_ITEM: Option<&[u8]> = Some(b"a\n");
 
 /// Six items whose candidates are all one bin of the eight, in which the stash leaves one without a row.
-const CROWDED: Option<&[u8]> = Some(b"i16\ni278\ni331\ni351\ni551\ni723\n");
+pub const CROWDED: &[u8] = b"i16\ni278\ni331\ni351\ni551\ni723\n";
 
 const RETURN_IN_LINE: Option<&[u8]> = Some(b"x\ry");
 
@@ -44,9 +44,14 @@ const REFUSED: &[(&str, Option<&[u8]>, Option<&[u8]>, &str)] = &[
     ("long line in y", ONE_ITEM, LONG_LINE, LONG_IN_Y),
     ("byte in y", ONE_ITEM, RETURN_IN_LINE, BYTE_IN_Y),
     ("byte in x, no y", RETURN_IN_LINE, None, BYTE_IN_X),
-    ("crowded x", CROWDED, ONE_ITEM, CROWD),
-    ("crowded x, no y", CROWDED, None, Y_FAULT),
-    ("crowded x, byte in y", CROWDED, RETURN_IN_LINE, BYTE_IN_Y),
+    ("crowded x", Some(CROWDED), ONE_ITEM, CROWD),
+    ("crowded x, no y", Some(CROWDED), None, Y_FAULT),
+    (
+        "crowded x, byte in y",
+        Some(CROWDED),
+        RETURN_IN_LINE,
+        BYTE_IN_Y,
+    ),
 ];
 
 #[test]

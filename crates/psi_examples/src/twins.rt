@@ -3,6 +3,7 @@ ghost use Rattle.std.specs.Prelude.{◌≡◌, ◌≤◌, IfOk, length};
 ghost use Rattle.psi_spec.specs.Limits.{row_limit};
 ghost use Rattle.psi_spec.specs.Matrices.{IsCleanMatrix};
 
+use crate::refusals::CROWDED;
 use crate::runs::{DONE, ZERO_SEED as Z, expect_run, words_of, world_of};
 use psi_base::{MemWorld, NoMemory, rows};
 use psi_bits::{Columns, Rows};
@@ -156,6 +157,16 @@ fn lists_of_two_sizes_and_other_deals_are_refused(rt: HostRuntime) -> Result<(),
     expect_run(&rt, &deal, &mut world, DONE, b"", "another deal")?;
     let id = "psi: deals differ in id\n";
     expect_run(&rt, TWIN, &mut world, id, b"", "deals before sizes")?;
+    assert!(rt; world.file("stream").is_none());
+    assert!(rt; world.file("columns").is_none());
+    Ok(())
+}
+
+#[test]
+fn a_second_list_without_a_placement_is_refused(rt: HostRuntime) -> Result<(), Fail> {
+    let mut world = dealt_world(&rt, b"a\nb\nc\nd\ne\nf\n", CROWDED)?;
+    let crowd = "psi: word 2: 6 items touch 1 bins\n";
+    expect_run(&rt, TWIN, &mut world, crowd, b"", "a crowded second list")?;
     assert!(rt; world.file("stream").is_none());
     assert!(rt; world.file("columns").is_none());
     Ok(())
