@@ -1,3 +1,4 @@
+mod Numbers
 mod Making
 mod Listed
 mod Coming

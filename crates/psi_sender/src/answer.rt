@@ -1,6 +1,8 @@
 // The lists of tags that answer a receiver's columns.
 ghost use Rattle.std.specs.Prelude.{◌≡◌, ◌≤◌, ◌<◌, ◌+◌, ◌-◌, ◌*◌, ◌^◌, [], length, map, take, slice_index, slice_index_or, All};
 ghost use Rattle.std.specs.List.{concat};
+ghost use Rattle.std.specs.Ordering.{nat_cmp};
+ghost use Rattle.std.specs.Cmp.Lexicographic.{slice_cmp};
 ghost use Rattle.std.specs.Simd.Lanes.{zip2};
 ghost use Rattle.psi_spec.specs.Rising.{rising};
 ghost use Rattle.psi_spec.specs.Streams.{block_frame, block_tags};
@@ -12,6 +14,7 @@ use psi_bits::Word512;
 use psi_deal::SenderDeal;
 use psi_frames::{Frame, Outbox, put};
 use psi_oprf::{Tag, codes, tags};
+use std::cmp::Ordering;
 
 /// The most tags of a frame.
 pub(crate) const BLOCK_TAGS: usize = 1024;
@@ -167,6 +170,20 @@ fn list_tags(
     }
 }
 
+// The order of two tags. It compares them as numbers, where the order of arrays goes byte by byte; the high halves are
+// words of the machine, and decide nearly always.
+fn tag_order(left: &Tag, right: &Tag) -> Ordering
+    ensures { result ≡ slice_cmp nat_cmp left.now right.now }
+{
+    let (left, right) = (u128::from_be_bytes(*left), u128::from_be_bytes(*right));
+    let (left_high, right_high) = ((left >> 64) as u64, (right >> 64) as u64);
+    if left_high == right_high {
+        left.cmp(&right)
+    } else {
+        left_high.cmp(&right_high)
+    }
+}
+
 /// Makes `out` the tags of all items in a list, in rising order. `opened` has the words of the rows.
 pub(crate) fn make_list(
     deal: &SenderDeal,
@@ -181,7 +198,7 @@ pub(crate) fn make_list(
     ensures { out.new ≡ rising (made_list deal.now opened.now bins hashes.now list) }
 {
     list_tags(deal, bins, list, opened, hashes, out);
-    out.sort_unstable();
+    out.sort_unstable_by(tag_order);
 }
 
 // Makes `out` the first `width` bytes of each tag, one after another.
