@@ -1,25 +1,24 @@
 -- The frames that a sender awaits are those of a receiver's stream.
-use Rattle.std.proofs.Common.{◌≡◌, ◌<◌, ◌≤◌, ◌+◌, ◌*◌, ◌^◌, ◌∙◌, ℕ, suc, List, [], ◌∷◌, ◌++◌, length, get_or, refl, sym, ap, ap₂, subst, arith, append_assoc, length-append}
+use Rattle.std.proofs.Common.{◌≡◌, ◌<◌, ◌≤◌, ◌+◌, ◌^◌, ◌∙◌, ℕ, suc, List, [], ◌∷◌, ◌++◌, length, refl, sym, ap, ap₂, subst, arith, append_assoc, length-append}
 use Rattle.std.specs.Int.{w16, w32, to_be_bytes}
 use Rattle.std.specs.List.{AllByRecursion, flat_map}
 use Rattle.std.proofs.lemmas.List.{append-nil, take_at, get_or-append-add}
-use Rattle.std.proofs.lemmas.List.Elements.{All-from_recursion, recursion_from_All}
-use Rattle.psi_spec.specs.Limits.{limit_items, row_limit, rows_for}
+use Rattle.psi_spec.specs.Limits.{rows_for}
 use Rattle.psi_spec.specs.Bits.{bit_of}
 use Rattle.psi_spec.specs.Columns.{column_bytes, row_of}
-use Rattle.psi_spec.specs.Matrices.{AreColumns, IsColumn, IsColumnSet}
-use Rattle.psi_spec.specs.ColumnSets.{opened_column, opened_columns, opened_from}
-use Rattle.psi_spec.specs.Deals.{SenderDeal, IsSenderDeal, sender_columns}
+use Rattle.psi_spec.specs.Matrices.{IsColumn}
+use Rattle.psi_spec.specs.ColumnSets.{opened_column, opened_from}
+use Rattle.psi_spec.specs.Deals.{SenderDeal}
 use Rattle.psi_spec.specs.Frames.{AreBytes, Frame, layout, receiver_hello, sender_hello, column_frame, tags_frame, done_frame}
-use Rattle.psi_spec.specs.Streams.{column_frames, columns_stream, sender_answer}
+use Rattle.psi_spec.specs.Streams.{column_frames, sender_answer}
 use Rattle.psi_frames.specs.declared.expect.Expect.TheVariants as expect
 use Rattle.psi_frames.specs.Expected.{IsValid}
 use Rattle.psi_frames.specs.Script.{AreAwaited, owed_for}
-use Rattle.psi_frames.specs.Valid.{HasParts, IsColumnOf, IsHelloOf}
+use Rattle.psi_frames.specs.Valid.{HasParts}
 use Rattle.psi_spec.proofs.Clean.{clean_from_padding, padding_from_clean}
 use Rattle.psi_spec.proofs.Frames.{AreBytes-take}
 use Rattle.psi_frames.proofs.Parts.{valid_by_parts, valid_from_parts}
-use Rattle.psi_sender.specs.Script.{bytes_in, count_in, opens_columns, sender_script}
+use Rattle.psi_sender.specs.Script.{bytes_in, opens_columns}
 
 -- the frames of columns from number c on, and of the end
 abbrev pub column_list : ℕ → List (List ℕ) → List Frame

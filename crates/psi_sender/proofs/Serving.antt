@@ -1,19 +1,17 @@
 -- A sender takes a receiver's stream, and nothing else, and sends its own for it.
-use Rattle.std.proofs.Common.{◌≡◌, ◌<◌, ◌≤◌, ◌+◌, ◌^◌, ◌∙◌, ℕ, true, List, [], ◌∷◌, ◌++◌, length, refl, sym, ap, ap₂, subst, arith, append_assoc}
+use Rattle.std.proofs.Common.{◌≡◌, ◌≤◌, ◌∙◌, ℕ, List, [], ◌∷◌, ◌++◌, length, refl, sym, ap, ap₂, subst, arith, append_assoc}
 use Rattle.std.specs.List.{flat_map}
 use Rattle.std.proofs.lemmas.Bool.Decides.{nat_tests}
 use Rattle.std.proofs.lemmas.List.{append-nil}
 use Rattle.std.proofs.lemmas.List.Elements.{All-from_recursion, recursion_from_All}
 use Rattle.psi_spec.specs.Limits.{limit_items, rows_for}
-use Rattle.psi_spec.specs.Columns.{row_of}
 use Rattle.psi_spec.specs.Matrices.{IsColumn, IsColumnSet}
-use Rattle.psi_spec.specs.ColumnSets.{opened_columns, opened_from}
+use Rattle.psi_spec.specs.ColumnSets.{opened_columns}
 use Rattle.psi_spec.specs.Deals.{SenderDeal, IsSenderDeal, sender_columns}
 use Rattle.psi_spec.specs.Frames.{AreBytes, Frame, layout, receiver_hello, sender_hello, column_frame, tags_frame, done_frame}
-use Rattle.psi_spec.specs.Streams.{column_frames, columns_stream, sender_answer, sender_stream}
+use Rattle.psi_spec.specs.Streams.{column_frames, columns_stream, sender_stream}
 use Rattle.psi_spec.proofs.DealtColumns.{are_columns, sender_columns_are}
 use Rattle.psi_spec.proofs.Opening.{opened_columns_answer}
-use Rattle.psi_spec.proofs.Frames.{AreBytes-take}
 use Rattle.psi_frames.specs.Dialogue.{good}
 use Rattle.psi_frames.specs.declared.expect.Expect.TheVariants as expect
 use Rattle.psi_frames.specs.Expected.{IsValid}
@@ -21,7 +19,7 @@ use Rattle.psi_frames.specs.Script.{AreAwaited, owed_for}
 use Rattle.psi_frames.specs.Valid.{HasParts}
 use Rattle.psi_frames.proofs.Parts.{valid_by_parts, valid_from_parts}
 use Rattle.psi_frames.proofs.Readings.{owes_all, reads_awaited, reads_frames}
-use Rattle.psi_sender.specs.Laws.{IsStreamFor, Serves, ServesNothingElse, ServesStreams, sender_dialogue}
+use Rattle.psi_sender.specs.Laws.{IsStreamFor, ServesNothingElse, ServesStreams, sender_dialogue}
 use Rattle.psi_sender.specs.Script.{count_in, opens_columns, sender_script}
 use Rattle.psi_sender.proofs.Awaited.{FewRows, WereColumns, column_list, column_list-bytes, columns_awaited, columns_owed, columns_read, bytes-left, bytes-right}
 
