@@ -1,43 +1,54 @@
 // The bins of many digests, eight side by side.
-ghost use Rattle.std.specs.Prelude.{◌≡◌, ◌≤◌, ◌<◌, ◌%◌, All, length, map};
-ghost use Rattle.psi_oprf.specs.Candidates.{digest_candidates};
+ghost use Rattle.std.specs.Prelude.{◌≡◌, ◌≤◌, ◌<◌, ◌%◌, ℕ, [], All, length, map, slice_index_or};
+ghost use Rattle.psi_lanes.specs.Digests.{IsTwoBlocks};
+ghost use Rattle.psi_oprf.specs.Candidates.{bins_in as bins_in_of, digest_candidates};
+ghost use Rattle.psi_oprf.specs.Messages.{bins_message};
 
 use crate::formulas::{bins_in, candidates};
-use crate::messages::{BINS_END, bins_block};
+use crate::messages::{BINS_END, put_bins_block};
 use psi_lanes::EndBlock;
 
-// The bins of eight digests.
+// Writes the first blocks of the messages of the bins of eight digests.
+#[inline(always)]
+fn put_blocks(key: &[u8; 16], digests: &[[u8; 32]], blocks: &mut [[u8; 64]; 8])
+    requires { length digests.now ≡ 8 }
+    ensures { (j : ℕ) → j < 8 →
+        IsTwoBlocks (bins_message key.now (slice_index_or digests.now j [])) (slice_index_or blocks.new j []) BINS_END }
+{
+    for j in 0..8 {
+        put_bins_block(key, &digests[j], &mut blocks[j]);
+    }
+}
+
+// Writes the bins that eight hashes hold.
+#[inline(always)]
+fn put_bins(hashes: &[[u8; 32]; 8], bins: u32, out: &mut [[u32; 3]])
+    requires bins { 1 ≤ bins }
+    requires out { length out.old ≡ 8 }
+    ensures { (j : ℕ) → j < 8 → slice_index_or out.new j [] ≡ bins_in_of bins (slice_index_or hashes.now j []) }
+{
+    for j in 0..8 {
+        out[j] = bins_in(&hashes[j], bins);
+    }
+}
+
+// Fills `out` with the bins of eight digests.
 fn eight_candidates(
     key: &[u8; 16],
     digests: &[[u8; 32]],
     bins: u32,
     end: &EndBlock,
-) -> [[u32; 3]; 8]
+    out: &mut [[u32; 3]],
+)
     requires digests { length digests.now ≡ 8 }
     requires bins { 1 ≤ bins }
     requires end { end.now ≡ BINS_END }
-    ensures { result ≡ map (digest_candidates key.now bins) digests.now }
+    requires out { length out.old ≡ 8 }
+    ensures { out.new ≡ map (digest_candidates key.now bins) digests.now }
 {
-    let hashes = end.digests(&[
-        bins_block(key, &digests[0]),
-        bins_block(key, &digests[1]),
-        bins_block(key, &digests[2]),
-        bins_block(key, &digests[3]),
-        bins_block(key, &digests[4]),
-        bins_block(key, &digests[5]),
-        bins_block(key, &digests[6]),
-        bins_block(key, &digests[7]),
-    ]);
-    [
-        bins_in(&hashes[0], bins),
-        bins_in(&hashes[1], bins),
-        bins_in(&hashes[2], bins),
-        bins_in(&hashes[3], bins),
-        bins_in(&hashes[4], bins),
-        bins_in(&hashes[5], bins),
-        bins_in(&hashes[6], bins),
-        bins_in(&hashes[7], bins),
-    ]
+    let mut blocks = [[0; 64]; 8];
+    put_blocks(key, digests, &mut blocks);
+    put_bins(&end.digests(&blocks), bins, out);
 }
 
 // Fills `out` with the bins of digests, of which there are a multiple of eight.
@@ -50,8 +61,7 @@ fn candidates_by_eight(key: &[u8; 16], digests: &[[u8; 32]], bins: u32, out: &mu
     let end = EndBlock::new(&BINS_END);
     for turn in 0..digests.len() / 8 {
         let at = 8 * turn;
-        let eight = eight_candidates(key, &digests[at..at + 8], bins, &end);
-        out[at..at + 8].copy_from_slice(&eight);
+        eight_candidates(key, &digests[at..at + 8], bins, &end, &mut out[at..at + 8]);
     }
 }
 

@@ -1,38 +1,33 @@
 // Codes over whole slices, eight side by side.
 ghost use Rattle.std.specs.Prelude.{◌≡◌, ◌≤◌, ◌<◌, ◌%◌, ◌++◌, ℕ, [], length, map, slice_index, slice_index_or, All};
 ghost use Rattle.std.specs.Simd.Lanes.{zip2};
-ghost use Rattle.psi_spec.specs.Formulas.{code as code_of, code_half};
+ghost use Rattle.psi_spec.specs.Formulas.{code as code_of};
+ghost use Rattle.psi_lanes.specs.Digests.{IsTwoBlocks};
+ghost use Rattle.psi_oprf.specs.Messages.{code_message};
 
 use crate::formulas::code;
-use crate::messages::{CODE_END, code_block};
+use crate::messages::{CODE_END, put_code_block};
 use psi_bits::Word512;
 use psi_lanes::EndBlock;
 
-// Half `half`, 0 or 1, of the codes of eight digests, each at its own index.
+// Writes the first blocks of the messages of half `half`, 0 or 1, of the codes of eight digests, each at its own index.
 #[inline(always)]
-fn eight_halves(
+fn put_blocks(
     key: &[u8; 16],
     indices: &[u8],
     half: u8,
     digests: &[[u8; 32]],
-    end: &EndBlock,
-) -> [[u8; 32]; 8]
+    blocks: &mut [[u8; 64]; 8],
+)
     requires indices { length indices.now ≡ 8 }
     requires digests { length digests.now ≡ 8 }
-    requires end { end.now ≡ CODE_END }
-    ensures { (j : ℕ) → j < 8 → slice_index_or result j []
-        ≡ code_half key.now (slice_index indices.now j) half (slice_index_or digests.now j []) }
+    ensures { (j : ℕ) → j < 8 →
+        IsTwoBlocks (code_message key.now (slice_index indices.now j) half (slice_index_or digests.now j []))
+        (slice_index_or blocks.new j []) CODE_END }
 {
-    end.digests(&[
-        code_block(key, indices[0], half, &digests[0]),
-        code_block(key, indices[1], half, &digests[1]),
-        code_block(key, indices[2], half, &digests[2]),
-        code_block(key, indices[3], half, &digests[3]),
-        code_block(key, indices[4], half, &digests[4]),
-        code_block(key, indices[5], half, &digests[5]),
-        code_block(key, indices[6], half, &digests[6]),
-        code_block(key, indices[7], half, &digests[7]),
-    ])
+    for j in 0..8 {
+        put_code_block(key, indices[j], half, &digests[j], &mut blocks[j]);
+    }
 }
 
 // The code of its two halves.
@@ -47,25 +42,37 @@ fn joined(low: &[u8; 32], high: &[u8; 32]) -> Word512
     Word512::from_bytes(&bytes)
 }
 
-// The codes of eight digests, each at its own index.
-fn eight_codes(key: &[u8; 16], indices: &[u8], digests: &[[u8; 32]], end: &EndBlock) -> [Word512; 8]
+// Writes the codes of their two halves.
+#[inline(always)]
+fn put_joined(low: &[[u8; 32]; 8], high: &[[u8; 32]; 8], out: &mut [Word512])
+    requires { length out.old ≡ 8 }
+    ensures { (j : ℕ) → j < 8 →
+        slice_index_or out.new j [] ≡ slice_index_or low.now j [] ++ slice_index_or high.now j [] }
+{
+    for j in 0..8 {
+        out[j] = joined(&low[j], &high[j]);
+    }
+}
+
+// Fills `out` with the codes of eight digests, each at its own index.
+fn eight_codes(
+    key: &[u8; 16],
+    indices: &[u8],
+    digests: &[[u8; 32]],
+    end: &EndBlock,
+    out: &mut [Word512],
+)
     requires indices { length indices.now ≡ 8 }
     requires digests { length digests.now ≡ 8 }
     requires end { end.now ≡ CODE_END }
-    ensures { result ≡ zip2 (code_of key.now) indices.now digests.now }
+    requires out { length out.old ≡ 8 }
+    ensures { out.new ≡ zip2 (code_of key.now) indices.now digests.now }
 {
-    let low = eight_halves(key, indices, 0, digests, end);
-    let high = eight_halves(key, indices, 1, digests, end);
-    [
-        joined(&low[0], &high[0]),
-        joined(&low[1], &high[1]),
-        joined(&low[2], &high[2]),
-        joined(&low[3], &high[3]),
-        joined(&low[4], &high[4]),
-        joined(&low[5], &high[5]),
-        joined(&low[6], &high[6]),
-        joined(&low[7], &high[7]),
-    ]
+    let mut blocks = [[0; 64]; 8];
+    put_blocks(key, indices, 0, digests, &mut blocks);
+    let low = end.digests(&blocks);
+    put_blocks(key, indices, 1, digests, &mut blocks);
+    put_joined(&low, &end.digests(&blocks), out);
 }
 
 // Fills `out` with the codes of digests, of which there are a multiple of eight.
@@ -77,8 +84,13 @@ fn codes_by_eight(key: &[u8; 16], index: u8, digests: &[[u8; 32]], out: &mut [Wo
     let end = EndBlock::new(&CODE_END);
     for turn in 0..digests.len() / 8 {
         let at = 8 * turn;
-        let eight = eight_codes(key, &[index; 8], &digests[at..at + 8], &end);
-        out[at..at + 8].copy_from_slice(&eight);
+        eight_codes(
+            key,
+            &[index; 8],
+            &digests[at..at + 8],
+            &end,
+            &mut out[at..at + 8],
+        );
     }
 }
 
@@ -117,8 +129,13 @@ fn codes_at_by_eight(key: &[u8; 16], indices: &[u8], digests: &[[u8; 32]], out: 
     let end = EndBlock::new(&CODE_END);
     for turn in 0..out.len() / 8 {
         let at = 8 * turn;
-        let eight = eight_codes(key, &indices[at..at + 8], &digests[at..at + 8], &end);
-        out[at..at + 8].copy_from_slice(&eight);
+        eight_codes(
+            key,
+            &indices[at..at + 8],
+            &digests[at..at + 8],
+            &end,
+            &mut out[at..at + 8],
+        );
     }
 }
 

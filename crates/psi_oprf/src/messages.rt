@@ -29,12 +29,17 @@ const TAG_PADDING: [u8; 36] = [
     0, 0, 0, 0x02, 0xe0,
 ];
 
-/// The first block of the message of half `half`, 0 or 1, of a code. The second one is `CODE_END`.
+/// Writes the first block of the message of half `half`, 0 or 1, of a code. The second one is `CODE_END`.
 #[inline(always)]
-pub(crate) fn code_block(key: &[u8; 16], index: u8, half: u8, digest: &[u8; 32]) -> [u8; 64]
-    ensures { IsTwoBlocks (code_message key.now index half digest.now) result CODE_END }
+pub(crate) fn put_code_block(
+    key: &[u8; 16],
+    index: u8,
+    half: u8,
+    digest: &[u8; 32],
+    block: &mut [u8; 64],
+)
+    ensures { IsTwoBlocks (code_message key.now index half digest.now) block.new CODE_END }
 {
-    let mut block = [0; 64];
     let (name, rest) = block.split_at_mut(8);
     name.copy_from_slice(b"psi-code");
     let (key_bytes, rest) = rest.split_at_mut(16);
@@ -44,15 +49,13 @@ pub(crate) fn code_block(key: &[u8; 16], index: u8, half: u8, digest: &[u8; 32])
     let (digest_bytes, padding) = rest.split_at_mut(32);
     digest_bytes.copy_from_slice(digest);
     padding.copy_from_slice(&CODE_PADDING);
-    block
 }
 
-/// The first block of the message of the bins of a digest. The second one is `BINS_END`.
+/// Writes the first block of the message of the bins of a digest. The second one is `BINS_END`.
 #[inline(always)]
-pub(crate) fn bins_block(key: &[u8; 16], digest: &[u8; 32]) -> [u8; 64]
-    ensures { IsTwoBlocks (bins_message key.now digest.now) result BINS_END }
+pub(crate) fn put_bins_block(key: &[u8; 16], digest: &[u8; 32], block: &mut [u8; 64])
+    ensures { IsTwoBlocks (bins_message key.now digest.now) block.new BINS_END }
 {
-    let mut block = [0; 64];
     let (name, rest) = block.split_at_mut(8);
     name.copy_from_slice(b"psi-bins");
     let (key_bytes, rest) = rest.split_at_mut(16);
@@ -60,15 +63,19 @@ pub(crate) fn bins_block(key: &[u8; 16], digest: &[u8; 32]) -> [u8; 64]
     let (digest_bytes, padding) = rest.split_at_mut(32);
     digest_bytes.copy_from_slice(digest);
     padding.copy_from_slice(&BINS_PADDING);
-    block
 }
 
-/// The two blocks of the message of the tag of a word at a row.
+/// Writes the two blocks of the message of the tag of a word at a row.
 #[inline(always)]
-pub(crate) fn tag_blocks(key: &[u8; 16], row: u32, word: &[u8; 64]) -> ([u8; 64], [u8; 64])
-    ensures { IsTwoBlocks (tag_message key.now row word.now) result.0 result.1 }
+pub(crate) fn put_tag_blocks(
+    key: &[u8; 16],
+    row: u32,
+    word: &[u8; 64],
+    first: &mut [u8; 64],
+    second: &mut [u8; 64],
+)
+    ensures { IsTwoBlocks (tag_message key.now row word.now) first.new second.new }
 {
-    let mut first = [0; 64];
     let (name, rest) = first.split_at_mut(8);
     name.copy_from_slice(b"psi-tags");
     let (key_bytes, rest) = rest.split_at_mut(16);
@@ -77,9 +84,7 @@ pub(crate) fn tag_blocks(key: &[u8; 16], row: u32, word: &[u8; 64]) -> ([u8; 64]
     row_bytes.copy_from_slice(&row.to_be_bytes());
     word_bytes.copy_from_slice(&word[..36]);
 
-    let mut second = [0; 64];
     let (word_bytes, padding) = second.split_at_mut(28);
     word_bytes.copy_from_slice(&word[36..]);
     padding.copy_from_slice(&TAG_PADDING);
-    (first, second)
 }

@@ -1,10 +1,12 @@
 // Tags over whole slices, eight side by side.
-ghost use Rattle.std.specs.Prelude.{◌≡◌, ◌≤◌, ◌%◌, length, take};
+ghost use Rattle.std.specs.Prelude.{◌≡◌, ◌≤◌, ◌<◌, ◌%◌, ℕ, [], length, slice_index, slice_index_or, take};
 ghost use Rattle.std.specs.Simd.Lanes.{zip2};
 ghost use Rattle.psi_spec.specs.Formulas.{padded, padded_tag};
+ghost use Rattle.psi_lanes.specs.Digests.{IsTwoBlocks};
+ghost use Rattle.psi_oprf.specs.Messages.{tag_message};
 
 use crate::formulas::{Tag, own_tag};
-use crate::messages::tag_blocks;
+use crate::messages::put_tag_blocks;
 use psi_bits::Word512;
 use psi_lanes::digests_of_two_blocks;
 
@@ -20,39 +22,52 @@ fn front(digest: &[u8; 32], width: u8) -> Tag
     tag
 }
 
-// The tags of eight words at their rows.
-fn eight_tags(key: &[u8; 16], width: u8, rows: &[u32], words: &[Word512]) -> [Tag; 8]
+// Writes the blocks of the messages of the tags of eight words at their rows.
+#[inline(always)]
+fn put_blocks(
+    key: &[u8; 16],
+    rows: &[u32],
+    words: &[Word512],
+    first: &mut [[u8; 64]; 8],
+    second: &mut [[u8; 64]; 8],
+)
+    requires rows { length rows.now ≡ 8 }
+    requires words { length words.now ≡ 8 }
+    ensures { (j : ℕ) → j < 8 →
+        IsTwoBlocks (tag_message key.now (slice_index rows.now j) (slice_index_or words.now j []))
+        (slice_index_or first.new j []) (slice_index_or second.new j []) }
+{
+    for j in 0..8 {
+        let word = words[j].to_bytes();
+        put_tag_blocks(key, rows[j], &word, &mut first[j], &mut second[j]);
+    }
+}
+
+// Writes the tags that begin eight digests.
+#[inline(always)]
+fn put_fronts(digests: &[[u8; 32]; 8], width: u8, tags: &mut [Tag])
+    requires most { width ≤ 16 }
+    requires tags { length tags.old ≡ 8 }
+    ensures { (j : ℕ) → j < 8 →
+        slice_index_or tags.new j [] ≡ padded width (take width (slice_index_or digests.now j [])) }
+{
+    for j in 0..8 {
+        tags[j] = front(&digests[j], width);
+    }
+}
+
+// Fills `out` with the tags of eight words at their rows.
+fn eight_tags(key: &[u8; 16], width: u8, rows: &[u32], words: &[Word512], out: &mut [Tag])
     requires most { width ≤ 16 }
     requires rows { length rows.now ≡ 8 }
     requires words { length words.now ≡ 8 }
-    ensures { result ≡ zip2 (padded_tag key.now width) rows.now words.now }
+    requires out { length out.old ≡ 8 }
+    ensures { out.new ≡ zip2 (padded_tag key.now width) rows.now words.now }
 {
-    let (first_a, second_a) = tag_blocks(key, rows[0], &words[0].to_bytes());
-    let (first_b, second_b) = tag_blocks(key, rows[1], &words[1].to_bytes());
-    let (first_c, second_c) = tag_blocks(key, rows[2], &words[2].to_bytes());
-    let (first_d, second_d) = tag_blocks(key, rows[3], &words[3].to_bytes());
-    let (first_e, second_e) = tag_blocks(key, rows[4], &words[4].to_bytes());
-    let (first_f, second_f) = tag_blocks(key, rows[5], &words[5].to_bytes());
-    let (first_g, second_g) = tag_blocks(key, rows[6], &words[6].to_bytes());
-    let (first_h, second_h) = tag_blocks(key, rows[7], &words[7].to_bytes());
-    let digests = digests_of_two_blocks(
-        &[
-            first_a, first_b, first_c, first_d, first_e, first_f, first_g, first_h,
-        ],
-        &[
-            second_a, second_b, second_c, second_d, second_e, second_f, second_g, second_h,
-        ],
-    );
-    [
-        front(&digests[0], width),
-        front(&digests[1], width),
-        front(&digests[2], width),
-        front(&digests[3], width),
-        front(&digests[4], width),
-        front(&digests[5], width),
-        front(&digests[6], width),
-        front(&digests[7], width),
-    ]
+    let mut first = [[0; 64]; 8];
+    let mut second = [[0; 64]; 8];
+    put_blocks(key, rows, words, &mut first, &mut second);
+    put_fronts(&digests_of_two_blocks(&first, &second), width, out);
 }
 
 // Fills `out` with the tags of words, of which there are a multiple of eight.
@@ -65,8 +80,13 @@ fn tags_by_eight(key: &[u8; 16], width: u8, rows: &[u32], words: &[Word512], out
 {
     for turn in 0..out.len() / 8 {
         let at = 8 * turn;
-        let eight = eight_tags(key, width, &rows[at..at + 8], &words[at..at + 8]);
-        out[at..at + 8].copy_from_slice(&eight);
+        eight_tags(
+            key,
+            width,
+            &rows[at..at + 8],
+            &words[at..at + 8],
+            &mut out[at..at + 8],
+        );
     }
 }
 

@@ -13,9 +13,9 @@ loop-turn-preserved c =
     let out = c.loop-turn.out in
     let formula = digest_candidates c.args.key.now c.args.bins in
     let part = eight_from digests at in
-    let made = c.copy_from_slice.ensures.after ∙ c.eight_candidates-eight.ensures in
-    let eight : length c.copy_from_slice.new.self ≡ 8 = ap length made ∙ (length-map part formula ∙ length-eight_from digests at (omega arith)) in
+    let made = c.eight_candidates.ensures in
+    let eight : length c.eight_candidates.new.out ≡ 8 = ap length made ∙ (length-map part formula ∙ length-eight_from digests at (omega arith)) in
     let kept = c.loop-turn.auto.out in
-    take-put_mid at _ out c.copy_from_slice.new.self next (omega arith) (omega arith)
+    take-put_mid at _ out c.eight_candidates.new.out next (omega arith) (omega arith)
     ∙ (ap₂ (λ x y. x ++ y) c.loop-turn.invariant made
     ∙ sym (ap (map formula) (take_eight digests at next (omega arith)) ∙ map-append formula (take at digests) part))

@@ -1,9 +1,9 @@
-use Rattle.std.proofs.Common.{ℕ, List, [], ◌∷◌, map, sym, subst, ◌∙◌, ap, arith}
+use Rattle.std.proofs.Common.{◌≡◌, ◌<◌, List, ℕ, [], length, map, sym, subst, ◌∙◌, ap, arith, ext_get_or}
+use Rattle.std.proofs.lemmas.List.{get_or-map, length-map}
 use Rattle.psi_lanes.specs.Digests.{IsTwoBlocks}
 use Rattle.psi_spec.specs.Formulas.{bin}
 use Rattle.psi_oprf.specs.Candidates.{bins_in, digest_candidates}
 use Rattle.psi_oprf.specs.declared.messages.TheConstants.{BINS_END}
-use Rattle.psi_oprf.proofs.Eights.{eight_elements}
 use Rattle.psi_oprf.proofs.bin_batches.eight_candidates.Goals as goal
 
 pub returns : goal.returns
@@ -11,15 +11,13 @@ unfolding bin
 returns c =
     let bins = c.args.bins in
     let digests = c.args.digests.now in
-    let hash = c.digests-hashes.ensures in
+    let formula = digest_candidates c.args.key.now bins in
+    let out = c.put_bins.new.out in
+    let long : length out ≡ 8 = omega arith in
     let ended = λ (m block : List ℕ) (is : IsTwoBlocks m block BINS_END). subst (λ (end : List ℕ). IsTwoBlocks m block end) (sym c.requires.end) is in
-    let first = c.bins_in.ensures.bins ∙ ap (bins_in bins) (hash 0 (omega arith) _ (ended _ _ c.bins_block.ensures)) in
-    let second = c.bins_in-2.ensures.bins ∙ ap (bins_in bins) (hash 1 (omega arith) _ (ended _ _ c.bins_block-2.ensures)) in
-    let third = c.bins_in-3.ensures.bins ∙ ap (bins_in bins) (hash 2 (omega arith) _ (ended _ _ c.bins_block-3.ensures)) in
-    let fourth = c.bins_in-4.ensures.bins ∙ ap (bins_in bins) (hash 3 (omega arith) _ (ended _ _ c.bins_block-4.ensures)) in
-    let fifth = c.bins_in-5.ensures.bins ∙ ap (bins_in bins) (hash 4 (omega arith) _ (ended _ _ c.bins_block-5.ensures)) in
-    let sixth = c.bins_in-6.ensures.bins ∙ ap (bins_in bins) (hash 5 (omega arith) _ (ended _ _ c.bins_block-6.ensures)) in
-    let seventh = c.bins_in-7.ensures.bins ∙ ap (bins_in bins) (hash 6 (omega arith) _ (ended _ _ c.bins_block-7.ensures)) in
-    let eighth = c.bins_in-8.ensures.bins ∙ ap (bins_in bins) (hash 7 (omega arith) _ (ended _ _ c.bins_block-8.ensures)) in
-    (λ i. first i ∷ second i ∷ third i ∷ fourth i ∷ fifth i ∷ sixth i ∷ seventh i ∷ eighth i ∷ [])
-    ∙ ap (map (digest_candidates c.args.key.now bins)) (sym (eight_elements digests [] c.requires.digests))
+    ext_get_or [] out (map formula digests) (long ∙ sym (length-map digests formula ∙ c.requires.digests))
+    (λ j below.
+    let lt : j < 8 = omega arith in
+    c.put_bins.ensures j lt
+    ∙ (ap (bins_in bins) (c.digests.ensures j lt _ (ended _ _ (c.put_blocks.ensures j lt)))
+    ∙ sym (get_or-map formula digests j [] [] (omega arith))))

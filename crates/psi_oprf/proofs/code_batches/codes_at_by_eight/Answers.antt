@@ -20,12 +20,12 @@ loop-turn-preserved c =
     let some_digests = eight_from digests at in
     let long_indices = length-eight_from indices at (omega arith) in
     let long_digests = length-eight_from digests at (omega arith) in
-    let made = c.copy_from_slice.ensures.after ∙ c.eight_codes-eight.ensures in
-    let eight : length c.copy_from_slice.new.self ≡ 8 =
+    let made = c.eight_codes.ensures in
+    let eight : length c.eight_codes.new.out ≡ 8 =
     ap length made ∙ (length-zip2 formula some_indices some_digests (long_indices ∙ sym long_digests) ∙ long_indices) in
     let kept = c.loop-turn.auto.out in
     let as_many : length (take at indices) ≡ length (take at digests) = length-take-le at indices (omega arith) ∙ sym (length-take-le at digests (omega arith)) in
-    take-put_mid at _ out c.copy_from_slice.new.self next (omega arith) (omega arith)
+    take-put_mid at _ out c.eight_codes.new.out next (omega arith) (omega arith)
     ∙ (ap₂ (λ x y. x ++ y) c.loop-turn.invariant made
     ∙ sym (ap₂ (zip2 formula) (take_eight indices at next (omega arith)) (take_eight digests at next (omega arith))
     ∙ zip2-append formula (take at indices) some_indices (take at digests) some_digests as_many))

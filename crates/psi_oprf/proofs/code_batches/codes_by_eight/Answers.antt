@@ -15,9 +15,9 @@ loop-turn-preserved c =
     let formula = code c.args.key.now c.args.index in
     let part = eight_from digests at in
     let long = length-eight_from digests at (omega arith) in
-    let made = c.copy_from_slice.ensures.after ∙ (c.eight_codes-eight.ensures ∙ zip2_splat_left (code c.args.key.now) c.args.index 8 part long) in
-    let eight : length c.copy_from_slice.new.self ≡ 8 = ap length made ∙ (length-map part formula ∙ long) in
+    let made = c.eight_codes.ensures ∙ zip2_splat_left (code c.args.key.now) c.args.index 8 part long in
+    let eight : length c.eight_codes.new.out ≡ 8 = ap length made ∙ (length-map part formula ∙ long) in
     let kept = c.loop-turn.auto.out in
-    take-put_mid at _ out c.copy_from_slice.new.self next (omega arith) (omega arith)
+    take-put_mid at _ out c.eight_codes.new.out next (omega arith) (omega arith)
     ∙ (ap₂ (λ x y. x ++ y) c.loop-turn.invariant made
     ∙ sym (ap (map formula) (take_eight digests at next (omega arith)) ∙ map-append formula (take at digests) part))

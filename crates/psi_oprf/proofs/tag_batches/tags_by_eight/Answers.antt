@@ -20,12 +20,12 @@ loop-turn-preserved c =
     let some_words = eight_from words at in
     let long_rows = length-eight_from rows at (omega arith) in
     let long_words = length-eight_from words at (omega arith) in
-    let made = c.copy_from_slice.ensures.after ∙ c.eight_tags-eight.ensures in
-    let eight : length c.copy_from_slice.new.self ≡ 8 =
+    let made = c.eight_tags.ensures in
+    let eight : length c.eight_tags.new.out ≡ 8 =
     ap length made ∙ (length-zip2 formula some_rows some_words (long_rows ∙ sym long_words) ∙ long_rows) in
     let kept = c.loop-turn.auto.out in
     let as_many : length (take at rows) ≡ length (take at words) = length-take-le at rows (omega arith) ∙ sym (length-take-le at words (omega arith)) in
-    take-put_mid at _ out c.copy_from_slice.new.self next (omega arith) (omega arith)
+    take-put_mid at _ out c.eight_tags.new.out next (omega arith) (omega arith)
     ∙ (ap₂ (λ x y. x ++ y) c.loop-turn.invariant made
     ∙ sym (ap₂ (zip2 formula) (take_eight rows at next (omega arith)) (take_eight words at next (omega arith))
     ∙ zip2-append formula (take at rows) some_rows (take at words) some_words as_many))

@@ -1,7 +1,7 @@
 use Rattle.std.proofs.Common.{◌++◌, drop, ◌∙◌, arith, length-drop}
 use Rattle.std.proofs.lemmas.List.{take_all}
 use Rattle.psi_oprf.proofs.Padding.{tag_blocks}
-use Rattle.psi_oprf.proofs.messages.tag_blocks.Goals as goal
+use Rattle.psi_oprf.proofs.messages.put_tag_blocks.Goals as goal
 
 pub returns : goal.returns
 returns c =

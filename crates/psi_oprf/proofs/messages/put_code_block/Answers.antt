@@ -1,6 +1,6 @@
 use Rattle.std.proofs.Common.{◌++◌}
 use Rattle.psi_oprf.proofs.Padding.{code_blocks}
-use Rattle.psi_oprf.proofs.messages.code_block.Goals as goal
+use Rattle.psi_oprf.proofs.messages.put_code_block.Goals as goal
 
 pub returns : goal.returns
 returns c =

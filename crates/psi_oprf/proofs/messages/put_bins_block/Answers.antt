@@ -1,6 +1,6 @@
 use Rattle.std.proofs.Common.{◌++◌}
 use Rattle.psi_oprf.proofs.Padding.{bins_blocks}
-use Rattle.psi_oprf.proofs.messages.bins_block.Goals as goal
+use Rattle.psi_oprf.proofs.messages.put_bins_block.Goals as goal
 
 pub returns : goal.returns
 returns c =

@@ -1,0 +1,18 @@
+use Rattle.std.proofs.Common.{◌<◌, ℕ, List, [], length, slice_index_or, ◌∙◌, arith}
+use Rattle.std.proofs.lemmas.List.{length-set}
+use Rattle.psi_lanes.specs.Digests.{IsTwoBlocks}
+use Rattle.psi_oprf.specs.Messages.{bins_message}
+use Rattle.psi_oprf.specs.declared.messages.TheConstants.{BINS_END}
+use Rattle.psi_oprf.proofs.Rooms.{one_written}
+use Rattle.psi_oprf.proofs.bin_batches.put_blocks.Goals as goal
+
+pub loop-j-preserved : goal.loop-j-preserved
+loop-j-preserved c =
+    let blocks = c.loop-j.blocks in
+    let j = c.loop-j.j in
+    let long = c.loop-j.invariant.long in
+    record {
+      long = length-set blocks j _ ∙ long;
+      blocks = one_written (λ k block. IsTwoBlocks (bins_message c.args.key.now (slice_index_or c.args.digests.now k [])) block BINS_END) blocks j _
+          (omega arith) c.put_bins_block.ensures c.loop-j.invariant.blocks;
+    }
