@@ -6,8 +6,7 @@ ghost use Rattle.psi_lanes.specs.Digests.{AreDigests};
 
 use crate::constants::INITIAL;
 use crate::rounds::{State, compress};
-use crate::schedule_words::ScheduleWord;
-use crate::schedules::write_first_words;
+use crate::schedules::{Schedules, write_first_words};
 use std::simd::u32x8;
 
 /// The initial hash value of each message.
@@ -79,12 +78,15 @@ pub(crate) fn digests(state: &State) -> [[u8; 32]; 8]
 
 /// The digests of eight messages of 56 to 119 bytes, each of which is, with its padding (5.1.1), a
 /// first block of 64 bytes and a second one.
-pub fn digests_of_two_blocks(first: &[[u8; 64]; 8], second: &[[u8; 64]; 8]) -> [[u8; 32]; 8]
+pub fn digests_of_two_blocks(
+    first: &[[u8; 64]; 8],
+    second: &[[u8; 64]; 8],
+    room: &mut Schedules,
+) -> [[u8; 32]; 8]
     ensures { AreDigests first.now second.now result }
 {
-    let mut words = [ScheduleWord::zero(); 64];
-    write_first_words(first, &mut words);
-    let state = compress(&initial(), &mut words);
-    write_first_words(second, &mut words);
-    digests(&compress(&state, &mut words))
+    write_first_words(first, &mut room.words);
+    let state = compress(&initial(), &mut room.words);
+    write_first_words(second, &mut room.words);
+    digests(&compress(&state, &mut room.words))
 }

@@ -6,7 +6,7 @@ ghost use Rattle.psi_lanes.specs.Digests.{AreDigestsWith};
 use crate::digests::{digests, initial};
 use crate::rounds::{compress, compress_scheduled};
 use crate::schedule_words::ScheduleWord;
-use crate::schedules::{Schedule, extend, write_first_words};
+use crate::schedules::{Schedule, Schedules, extend, write_first_words};
 use std::marker::Model;
 
 // The message schedule of a block, in each lane (6.2.2, step 1).
@@ -53,12 +53,11 @@ impl EndBlock {
 
     /// The digests of eight messages, each of which is, with its padding, a first block of 64 bytes
     /// and this one.
-    pub fn digests(&self, first: &[[u8; 64]; 8]) -> [[u8; 32]; 8]
+    pub fn digests(&self, first: &[[u8; 64]; 8], room: &mut Schedules) -> [[u8; 32]; 8]
         ensures { AreDigestsWith self.now first.now result }
     {
-        let mut words = [ScheduleWord::zero(); 64];
-        write_first_words(first, &mut words);
-        let state = compress(&initial(), &mut words);
+        write_first_words(first, &mut room.words);
+        let state = compress(&initial(), &mut room.words);
         digests(&compress_scheduled(&state, &self.words))
     }
 }

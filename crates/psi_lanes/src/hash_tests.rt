@@ -1,5 +1,5 @@
 // Digests beside the standard's own and those of a hash that works on one message.
-use crate::{EndBlock, digests_of_two_blocks};
+use crate::{EndBlock, Schedules, digests_of_two_blocks};
 use sha2::{Digest, Sha256};
 
 // The example of two blocks of FIPS 180-4, and its digest.
@@ -36,10 +36,11 @@ fn two_blocks(message: &[u8]) -> ([u8; 64], [u8; 64]) {
 #[test]
 fn the_example_of_the_standard_has_its_digest(rt: HostRuntime) {
     let (first, end) = two_blocks(EXAMPLE);
-    for digest in EndBlock::new(&end).digests(&[first; 8]) {
+    let mut room = Schedules::new();
+    for digest in EndBlock::new(&end).digests(&[first; 8], &mut room) {
         assert_eq!(rt; digest, EXAMPLE_DIGEST);
     }
-    for digest in digests_of_two_blocks(&[first; 8], &[end; 8]) {
+    for digest in digests_of_two_blocks(&[first; 8], &[end; 8], &mut room) {
         assert_eq!(rt; digest, EXAMPLE_DIGEST);
     }
 }
@@ -49,13 +50,14 @@ fn each_lane_has_the_digest_of_its_own_message(rt: HostRuntime) {
     let messages = [
         [0; 92], [1; 92], [2; 92], [3; 92], [85; 92], [127; 92], [128; 92], [255; 92],
     ];
+    let mut room = Schedules::new();
     for length in [56, 58, 92] {
         let mut first = [[0; 64]; 8];
         let mut second = [[0; 64]; 8];
         for j in 0..8 {
             (first[j], second[j]) = two_blocks(&messages[j][..length]);
         }
-        let digests = digests_of_two_blocks(&first, &second);
+        let digests = digests_of_two_blocks(&first, &second, &mut room);
         for j in 0..8 {
             assert_eq!(rt;
                 digests[j],
@@ -68,6 +70,7 @@ fn each_lane_has_the_digest_of_its_own_message(rt: HostRuntime) {
 
 #[test]
 fn a_common_end_serves_each_lane(rt: HostRuntime) {
+    let mut room = Schedules::new();
     for length in [56, 58] {
         let messages = [
             [3; 58], [5; 58], [7; 58], [9; 58], [11; 58], [13; 58], [15; 58], [17; 58],
@@ -77,7 +80,7 @@ fn a_common_end_serves_each_lane(rt: HostRuntime) {
         for j in 0..8 {
             (first[j], _) = two_blocks(&messages[j][..length]);
         }
-        let digests = EndBlock::new(&end).digests(&first);
+        let digests = EndBlock::new(&end).digests(&first, &mut room);
         for j in 0..8 {
             assert_eq!(rt;
                 digests[j],

@@ -24,5 +24,6 @@ pub use digests::digests_of_two_blocks;
 pub use end_block::EndBlock;
 pub use flips::flip;
 pub use flips_back::flip_back;
+pub use schedules::Schedules;
 pub use tile::flip_tile;
 pub use xors::{mask_xor, xor_bytes};

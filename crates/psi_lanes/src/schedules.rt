@@ -10,6 +10,22 @@ use std::simd::u32x8;
 /// The message schedules of eight blocks, W 0 to W 63.
 pub(crate) type Schedule = [ScheduleWord; 64];
 
+/// Room for the message schedules of eight blocks, which each call writes over. It is made once for
+/// many calls, so that none of them has to clear it.
+#[derive(Drop)]
+pub struct Schedules {
+    pub(crate) words: Schedule,
+}
+
+impl Schedules {
+    /// Room that is cleared.
+    pub fn new() -> Schedules {
+        Schedules {
+            words: [ScheduleWord::zero(); 64],
+        }
+    }
+}
+
 // The word at byte `at` of a block (5.2.1).
 #[inline(always)]
 fn word_at(block: &[u8; 64], at: usize) -> u32

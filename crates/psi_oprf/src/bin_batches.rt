@@ -6,7 +6,7 @@ ghost use Rattle.psi_oprf.specs.Messages.{bins_message};
 
 use crate::formulas::{bins_in, candidates};
 use crate::messages::{BINS_END, put_bins_block};
-use psi_lanes::EndBlock;
+use psi_lanes::{EndBlock, Schedules};
 
 // Writes the first blocks of the messages of the bins of eight digests.
 #[inline(always)]
@@ -38,6 +38,7 @@ fn eight_candidates(
     digests: &[[u8; 32]],
     bins: u32,
     end: &EndBlock,
+    room: &mut Schedules,
     out: &mut [[u32; 3]],
 )
     requires digests { length digests.now ≡ 8 }
@@ -48,7 +49,7 @@ fn eight_candidates(
 {
     let mut blocks = [[0; 64]; 8];
     put_blocks(key, digests, &mut blocks);
-    put_bins(&end.digests(&blocks), bins, out);
+    put_bins(&end.digests(&blocks, room), bins, out);
 }
 
 // Fills `out` with the bins of digests, of which there are a multiple of eight.
@@ -59,9 +60,17 @@ fn candidates_by_eight(key: &[u8; 16], digests: &[[u8; 32]], bins: u32, out: &mu
     ensures { out.new ≡ map (digest_candidates key.now bins) digests.now }
 {
     let end = EndBlock::new(&BINS_END);
+    let mut room = Schedules::new();
     for turn in 0..digests.len() / 8 {
         let at = 8 * turn;
-        eight_candidates(key, &digests[at..at + 8], bins, &end, &mut out[at..at + 8]);
+        eight_candidates(
+            key,
+            &digests[at..at + 8],
+            bins,
+            &end,
+            &mut room,
+            &mut out[at..at + 8],
+        );
     }
 }
 

@@ -8,7 +8,7 @@ ghost use Rattle.psi_oprf.specs.Messages.{code_message};
 use crate::formulas::code;
 use crate::messages::{CODE_END, put_code_block};
 use psi_bits::Word512;
-use psi_lanes::EndBlock;
+use psi_lanes::{EndBlock, Schedules};
 
 // Writes the first blocks of the messages of half `half`, 0 or 1, of the codes of eight digests, each at its own index.
 #[inline(always)]
@@ -60,6 +60,7 @@ fn eight_codes(
     indices: &[u8],
     digests: &[[u8; 32]],
     end: &EndBlock,
+    room: &mut Schedules,
     out: &mut [Word512],
 )
     requires indices { length indices.now ≡ 8 }
@@ -70,9 +71,9 @@ fn eight_codes(
 {
     let mut blocks = [[0; 64]; 8];
     put_blocks(key, indices, 0, digests, &mut blocks);
-    let low = end.digests(&blocks);
+    let low = end.digests(&blocks, room);
     put_blocks(key, indices, 1, digests, &mut blocks);
-    put_joined(&low, &end.digests(&blocks), out);
+    put_joined(&low, &end.digests(&blocks, room), out);
 }
 
 // Fills `out` with the codes of digests, of which there are a multiple of eight.
@@ -82,6 +83,7 @@ fn codes_by_eight(key: &[u8; 16], index: u8, digests: &[[u8; 32]], out: &mut [Wo
     ensures { out.new ≡ map (code_of key.now index) digests.now }
 {
     let end = EndBlock::new(&CODE_END);
+    let mut room = Schedules::new();
     for turn in 0..digests.len() / 8 {
         let at = 8 * turn;
         eight_codes(
@@ -89,6 +91,7 @@ fn codes_by_eight(key: &[u8; 16], index: u8, digests: &[[u8; 32]], out: &mut [Wo
             &[index; 8],
             &digests[at..at + 8],
             &end,
+            &mut room,
             &mut out[at..at + 8],
         );
     }
@@ -127,6 +130,7 @@ fn codes_at_by_eight(key: &[u8; 16], indices: &[u8], digests: &[[u8; 32]], out: 
     ensures { out.new ≡ zip2 (code_of key.now) indices.now digests.now }
 {
     let end = EndBlock::new(&CODE_END);
+    let mut room = Schedules::new();
     for turn in 0..out.len() / 8 {
         let at = 8 * turn;
         eight_codes(
@@ -134,6 +138,7 @@ fn codes_at_by_eight(key: &[u8; 16], indices: &[u8], digests: &[[u8; 32]], out: 
             &indices[at..at + 8],
             &digests[at..at + 8],
             &end,
+            &mut room,
             &mut out[at..at + 8],
         );
     }

@@ -8,7 +8,7 @@ ghost use Rattle.psi_oprf.specs.Messages.{tag_message};
 use crate::formulas::{Tag, own_tag};
 use crate::messages::put_tag_blocks;
 use psi_bits::Word512;
-use psi_lanes::digests_of_two_blocks;
+use psi_lanes::{Schedules, digests_of_two_blocks};
 
 // The tag of so many bytes that begins a digest.
 #[inline(always)]
@@ -57,7 +57,14 @@ fn put_fronts(digests: &[[u8; 32]; 8], width: u8, tags: &mut [Tag])
 }
 
 // Fills `out` with the tags of eight words at their rows.
-fn eight_tags(key: &[u8; 16], width: u8, rows: &[u32], words: &[Word512], out: &mut [Tag])
+fn eight_tags(
+    key: &[u8; 16],
+    width: u8,
+    rows: &[u32],
+    words: &[Word512],
+    room: &mut Schedules,
+    out: &mut [Tag],
+)
     requires most { width ≤ 16 }
     requires rows { length rows.now ≡ 8 }
     requires words { length words.now ≡ 8 }
@@ -67,7 +74,7 @@ fn eight_tags(key: &[u8; 16], width: u8, rows: &[u32], words: &[Word512], out: &
     let mut first = [[0; 64]; 8];
     let mut second = [[0; 64]; 8];
     put_blocks(key, rows, words, &mut first, &mut second);
-    put_fronts(&digests_of_two_blocks(&first, &second), width, out);
+    put_fronts(&digests_of_two_blocks(&first, &second, room), width, out);
 }
 
 // Fills `out` with the tags of words, of which there are a multiple of eight.
@@ -78,6 +85,7 @@ fn tags_by_eight(key: &[u8; 16], width: u8, rows: &[u32], words: &[Word512], out
     requires eights { length out.old % 8 ≡ 0 }
     ensures { out.new ≡ zip2 (padded_tag key.now width) rows.now words.now }
 {
+    let mut room = Schedules::new();
     for turn in 0..out.len() / 8 {
         let at = 8 * turn;
         eight_tags(
@@ -85,6 +93,7 @@ fn tags_by_eight(key: &[u8; 16], width: u8, rows: &[u32], words: &[Word512], out
             width,
             &rows[at..at + 8],
             &words[at..at + 8],
+            &mut room,
             &mut out[at..at + 8],
         );
     }
