@@ -1,9 +1,9 @@
-use Rattle.std.proofs.Common.{◌<◌, ℕ, List, [], length, slice_index, slice_index_or, ◌∙◌, arith}
+use Rattle.std.proofs.Common.{[], slice_index, slice_index_or, ◌∙◌, arith}
 use Rattle.std.proofs.lemmas.List.{length-set}
 use Rattle.psi_lanes.specs.Digests.{IsTwoBlocks}
 use Rattle.psi_oprf.specs.Messages.{code_message}
 use Rattle.psi_oprf.specs.declared.messages.TheConstants.{CODE_END}
-use Rattle.psi_oprf.proofs.Rooms.{one_written}
+use Rattle.psi_oprf.proofs.Written.{one_written}
 use Rattle.psi_oprf.proofs.code_batches.put_blocks.Goals as goal
 
 pub loop-j-preserved : goal.loop-j-preserved

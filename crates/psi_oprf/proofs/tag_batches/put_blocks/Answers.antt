@@ -1,8 +1,8 @@
-use Rattle.std.proofs.Common.{◌≡◌, ◌<◌, ℕ, List, [], length, slice_index, slice_index_or, ◌∙◌, sym, subst, arith}
+use Rattle.std.proofs.Common.{ℕ, List, [], slice_index, slice_index_or, ◌∙◌, subst, arith}
 use Rattle.std.proofs.lemmas.List.{get_or_default, length-set}
 use Rattle.psi_lanes.specs.Digests.{IsTwoBlocks}
 use Rattle.psi_oprf.specs.Messages.{tag_message}
-use Rattle.psi_oprf.proofs.Rooms.{two_written}
+use Rattle.psi_oprf.proofs.Written.{two_written}
 use Rattle.psi_oprf.proofs.tag_batches.put_blocks.Goals as goal
 
 pub loop-j-preserved : goal.loop-j-preserved
