@@ -13,7 +13,6 @@ ghost use Rattle.psi_audit.specs.Verdicts.{consistent, slots_fault, verdict_of, 
 
 use crate::colliding::collisions;
 use crate::comparing::Comparison;
-use crate::hashing::item_candidates;
 use crate::inputs::Inputs;
 use crate::verdict::Verdict;
 use psi_base::{NoMemory, Places, bins};
@@ -21,6 +20,7 @@ use psi_cuckoo::{BadSlots, Placement, Slot, check_placement};
 use psi_deal::{ReceiverDeal, SenderDeal, deals_differ};
 use psi_items::Items;
 use psi_log::LoggedSession;
+use psi_oprf::item_candidates;
 use psi_receiver::ReceiverCore;
 use psi_sender::SenderCore;
 use psi_session::exchange;

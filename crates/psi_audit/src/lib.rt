@@ -3,7 +3,6 @@
 
 mod colliding;
 mod comparing;
-mod hashing;
 mod inputs;
 mod judging;
 pub mod laws;

@@ -1,13 +1,13 @@
 //! Audits of small sessions.
 ghost use Rattle.psi_spec.specs.Deals.{ArePair};
 
-use crate::hashing::item_candidates;
 use crate::{Verdict, audit};
 use psi_base::{NoMemory, Pairs, Places, RECORD_LIMIT, bins};
 use psi_cuckoo::{BadSlots, place};
 use psi_deal::{DealField, ReceiverDeal, SenderDeal, deal};
 use psi_items::Items;
 use psi_log::{Recorder, read_record, write_record};
+use psi_oprf::item_candidates;
 use psi_receiver::ReceiverCore;
 use psi_sender::SenderCore;
 use psi_session::{Transcript, exchange};

@@ -1,5 +1,8 @@
 // Batches beside values that another program computed and beside the single calls.
-use crate::{Tag, candidates, candidates_of, code, codes, codes_at, own_tag, tags};
+use crate::{
+    Tag, candidates, candidates_of, code, codes, codes_at, item_candidates, own_tag, tags,
+};
+use psi_base::NoMemory;
 use psi_bits::Word512;
 
 // The key of a deal.
@@ -128,4 +131,14 @@ fn candidates_of_any_length_are_the_single_calls(rt: HostRuntime) {
             assert_eq!(rt; *bins, candidates(&KEY, digest, 1000), "of {size}");
         }
     }
+}
+
+#[test]
+fn candidates_of_items_are_the_single_calls(rt: HostRuntime) -> Result<(), NoMemory> {
+    let made = item_candidates(rt.alloc(), &KEY, 1000, &DIGESTS)?;
+    assert_eq!(rt; made.len(), 17);
+    for (bins, digest) in made.iter().zip(&DIGESTS) {
+        assert_eq!(rt; *bins, candidates(&KEY, digest, 1000));
+    }
+    Ok(())
 }

@@ -1,13 +1,12 @@
 // What is hashed of each item once.
-ghost use Rattle.std.specs.Prelude.{◌≡◌, ◌≤◌, ◌<◌, ◌+◌, length, map, IfOk};
-ghost use Rattle.psi_spec.specs.Formulas.{item_digest};
+ghost use Rattle.std.specs.Prelude.{◌≤◌, IfOk};
 ghost use Rattle.psi_sender.specs.Hashed.{AreHashes};
 
 use psi_base::NoMemory;
 use psi_bits::Word512;
 use psi_deal::SenderDeal;
-use psi_items::{Items, digest};
-use psi_oprf::{candidates_of, codes};
+use psi_items::Items;
+use psi_oprf::{codes, item_candidates};
 use std::alloc::Global;
 
 /// What is hashed of each of the sender's items once, in their order.
@@ -19,18 +18,6 @@ pub(crate) struct Hashes {
     pub(crate) bins: Vec<[u32; 3]>,
     /// The codes at index 0, which serve all rows of the stash; none where it has no rows.
     pub(crate) codes: Vec<Word512>,
-}
-
-// Makes each of `digests`, of which there are as many as items, the digest of its item.
-fn put_digests(items: &Items, digests: &mut [[u8; 32]])
-    requires { length digests.old ≡ length items.now }
-    ensures { digests.new ≡ map item_digest items.now }
-{
-    for i in 0..items.len() {
-        if let Some(item) = items.get(i) {
-            digests[i as usize] = digest(item);
-        }
-    }
 }
 
 impl Hashes {
@@ -46,15 +33,13 @@ impl Hashes {
     {
         let size = items.len() as usize;
         let stored = if deal.stash() == 0 { 0 } else { size };
-        let mut digests = vec![in alloc; [0; 32]; size]?;
-        let mut three = vec![in alloc; [0; 3]; size]?;
+        let digests = items.digests(alloc)?;
+        let bins = item_candidates(alloc, deal.key(), bins, &digests)?;
         let mut stash_codes = vec![in alloc; Word512::zero(); stored]?;
-        put_digests(items, &mut digests);
-        candidates_of(deal.key(), &digests, bins, &mut three);
         codes(deal.key(), 0, &digests[..stored], &mut stash_codes);
         Ok(Hashes {
             digests,
-            bins: three,
+            bins,
             codes: stash_codes,
         })
     }

@@ -1,9 +1,8 @@
 // The placement of the receiver's items.
-ghost use Rattle.std.specs.Prelude.{◌≡◌, ◌≤◌, IfOk, length, map};
+ghost use Rattle.std.specs.Prelude.{◌≡◌, IfOk, length, map};
 ghost use Rattle.psi_spec.specs.Formulas.{item_digest};
 ghost use Rattle.psi_spec.specs.Limits.{bins_for};
 ghost use Rattle.psi_spec.specs.Placement.{IsPlacementOf};
-ghost use Rattle.psi_oprf.specs.Candidates.{digest_candidates};
 ghost use Rattle.psi_top.specs.Receive.{placing_of};
 ghost use Rattle.psi_top.specs.Walk.{Places};
 
@@ -11,24 +10,9 @@ use psi_base::{NoMemory, bins};
 use psi_cuckoo::{NoFit, Placement, place};
 use psi_deal::ReceiverDeal;
 use psi_items::Items;
-use psi_oprf::candidates_of;
+use psi_oprf::item_candidates;
 use psi_texts::Status;
 use std::alloc::Global;
-
-// The candidates of the items with these digests.
-fn item_candidates(
-    alloc: Global,
-    key: &[u8; 16],
-    bins: u32,
-    digests: &[[u8; 32]],
-) -> Result<Vec<[u32; 3]>, NoMemory>
-    requires { 1 ≤ bins }
-    ensures { IfOk result (λ made. made.items ≡ map (digest_candidates key.now bins) digests.now) }
-{
-    let mut made = vec![in alloc; [0; 3]; digests.len()]?;
-    candidates_of(key, digests, bins, &mut made);
-    Ok(made)
-}
 
 /// Places the items of the file that this word names, which have these digests.
 pub fn place_items(

@@ -1,4 +1,4 @@
-use Rattle.std.proofs.Common.{rules, ◌≡◌, ◌∙◌, length, map, ap, subst, arith, ℕ, List}
+use Rattle.std.proofs.Common.{rules, ◌≡◌, ◌∙◌, length, map, ap, arith}
 use Rattle.psi_spec.specs.Limits.{bins_for}
 use Rattle.psi_spec.specs.Placement.{IsPlacement, candidates_of}
 use Rattle.psi_audit.proofs.Judged.{candidates_are, one_placement_so}

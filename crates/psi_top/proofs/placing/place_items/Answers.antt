@@ -1,18 +1,12 @@
-use Rattle.std.proofs.Common.{◌≡◌, ◌≤◌, ◌<◌, ◌∙◌, All, List, ℕ, length, map, ap, ap₂, sym, refl, subst, arith}
+use Rattle.std.proofs.Common.{◌≡◌, ◌∙◌, length, map, ap, ap₂, refl, subst}
 use Rattle.psi_spec.specs.Limits.{bins_for}
 use Rattle.psi_spec.specs.Placement.{candidates_of}
 use Rattle.psi_cuckoo.specs.Refusal.{Refuses}
 use Rattle.psi_cuckoo.specs.declared.errors.NoFit.{NoFit}
 use Rattle.psi_oprf.specs.Candidates.{digest_candidates}
 use Rattle.psi_top.specs.Receive.{placing_of}
-use Rattle.psi_top.proofs.Digests.{candidates_are, candidates_within, crowds_so, placement_so}
+use Rattle.psi_top.proofs.Digests.{candidates_are, crowds_so, placement_so}
 use Rattle.psi_top.proofs.placing.place_items.Goals as goal
-
-pub place-requires-clause-candidates : goal.place-requires-clause-candidates
-place-requires-clause-candidates c =
-    let some : 1 ≤ c.bins-bin_count.result = omega (arith, c.bins-bin_count.ensures) in
-    subst (λ (cs : List (List ℕ)). All (λ rows. All (λ row. row < c.bins-bin_count.result) rows) cs) (sym (c.deref.ensures.value ∙ c.in_ok-candidates.ensures))
-    (candidates_within c.key.result.now c.bins-bin_count.result c.args.digests.now some)
 
 pub returns-in-Ok-clause-places : goal.returns-in-Ok-clause-places
 unfolding placing_of
@@ -21,7 +15,7 @@ returns-in-Ok-clause-places c =
     let xs = c.args.items.now in
     let bins : c.bins-bin_count.result ≡ bins_for (length xs) = c.bins-bin_count.ensures ∙ ap bins_for c.len.ensures.len in
     let candidates : c.deref.result.now ≡ map (candidates_of deal.key (bins_for (length xs))) xs =
-    c.deref.ensures.value ∙ c.in_ok-candidates.ensures ∙ ap₂ (λ key n. map (digest_candidates key n) c.args.digests.now) c.key.ensures bins
+    c.deref.ensures.value ∙ c.in_ok-candidates.ensures.made ∙ ap₂ (λ key n. map (digest_candidates key n) c.args.digests.now) c.key.ensures bins
     ∙ candidates_are deal.key (bins_for (length xs)) xs c.args.digests.now c.requires in
     placement_so c.stash.result deal.stash c.bins-bin_count.result (bins_for (length xs)) c.deref.result.now
     (map (candidates_of deal.key (bins_for (length xs))) xs) c.in-Ok.placement c.stash.ensures.stash bins candidates c.in-Ok.ensures.placement
@@ -32,7 +26,7 @@ returns-in-Ok-clause-placed c =
     let xs = c.args.items.now in
     let bins : c.bins-bin_count.result ≡ bins_for (length xs) = c.bins-bin_count.ensures ∙ ap bins_for c.len.ensures.len in
     let candidates : c.deref.result.now ≡ map (candidates_of deal.key (bins_for (length xs))) xs =
-    c.deref.ensures.value ∙ c.in_ok-candidates.ensures ∙ ap₂ (λ key n. map (digest_candidates key n) c.args.digests.now) c.key.ensures bins
+    c.deref.ensures.value ∙ c.in_ok-candidates.ensures.made ∙ ap₂ (λ key n. map (digest_candidates key n) c.args.digests.now) c.key.ensures bins
     ∙ candidates_are deal.key (bins_for (length xs)) xs c.args.digests.now c.requires in
     placement_so c.stash.result deal.stash c.bins-bin_count.result (bins_for (length xs)) c.deref.result.now
     (map (candidates_of deal.key (bins_for (length xs))) xs) c.in-Ok.placement c.stash.ensures.stash bins candidates c.in-Ok.ensures.placement
@@ -44,7 +38,7 @@ returns-in-Err-Crowded-clause-places c =
     let xs = c.args.items.now in
     let bins : c.bins-bin_count.result ≡ bins_for (length xs) = c.bins-bin_count.ensures ∙ ap bins_for c.len.ensures.len in
     let candidates : c.deref.result.now ≡ map (candidates_of deal.key (bins_for (length xs))) xs =
-    c.deref.ensures.value ∙ c.in_ok-candidates.ensures ∙ ap₂ (λ key n. map (digest_candidates key n) c.args.digests.now) c.key.ensures bins
+    c.deref.ensures.value ∙ c.in_ok-candidates.ensures.made ∙ ap₂ (λ key n. map (digest_candidates key n) c.args.digests.now) c.key.ensures bins
     ∙ candidates_are deal.key (bins_for (length xs)) xs c.args.digests.now c.requires in
     let refusal = subst (λ (why : NoFit). Refuses c.stash.result c.deref.result.now why) c.in-Err-Crowded.field-0-is c.in-Err-Crowded.ensures.refusal in
     let crowded =

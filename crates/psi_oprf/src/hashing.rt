@@ -1,13 +1,14 @@
-// What is hashed of the receiver's items once.
+// What is hashed of items into memory of its own.
 ghost use Rattle.std.specs.Prelude.{◌≡◌, ◌≤◌, ◌<◌, All, IfOk, map};
 ghost use Rattle.psi_oprf.specs.Candidates.{digest_candidates};
 
+use crate::bin_batches::candidates_of;
 use psi_base::NoMemory;
-use psi_oprf::candidates_of;
 use std::alloc::Global;
 
-/// The candidates, of so many bins, of the items with these digests.
-pub(crate) fn item_candidates(
+/// The three bins, of so many, of the items with these digests, in their order, under a key of 16 bytes: each is the
+/// answer of `candidates`. There is at least one bin. It is refused only where memory is wanting.
+pub fn item_candidates(
     alloc: Global,
     key: &[u8; 16],
     bins: u32,
