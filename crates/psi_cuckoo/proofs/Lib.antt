@@ -3,3 +3,5 @@ pub mod Paths
 pub mod Reached
 pub mod Placed
 pub mod Judging
+pub mod Picks
+pub mod Found

@@ -1,6 +1,6 @@
 -- The paths of a search.
 use Rattle.std.proofs.Common.{◌≡◌, ◌≢◌, ◌+◌, ◌-◌, ◌<◌, ◌≤◌, ℕ, List, [], ◌∷◌, ◌++◌, Some, None, length, map, get_or, set, refl, sym, ap, ◌∙◌, subst, arith, ⊎_elim, inl, inr}
-use Rattle.std.specs.Prelude.{nat_eq}
+use Rattle.std.specs.Prelude.{MatchOption, nat_eq}
 use Rattle.std.specs.List.{IsDistinct, range_with_len}
 use Rattle.std.specs.Cmp.{unsigned_Decides}
 use Rattle.std.proofs.lemmas.Bool.{cases_eq, eqb-true, false_from_ne_true}
@@ -198,3 +198,8 @@ visit_read visits k visit read within = read ∙ get_or_default visits k visit n
 -- what is read from the slots
 pub slot_read : (slots : List Slot) (item : ℕ) (slot : Slot) → slot ≡ get_or slots item slot → item < length slots → slot ≡ slot_at slots item
 slot_read slots item slot read within = read ∙ get_or_default slots item slot no_slot within
+
+-- what is known where nothing is found says more
+pub match_more : {A B : Type 0} {X : Type 0} (P : X → Type 0) (found : Option X) → (A → B) → MatchOption found A P → MatchOption found B P
+match_more P None f h = f h
+match_more P (Some x) f h = h

@@ -77,3 +77,8 @@ pub record IsReady (task : Task) (table : Table) : Type 0 where
 abbrev pub LeadsToFree : List (List ℕ) → List (Option ℕ) → ℕ → ℕ → Type 0
 LeadsToFree candidates occupants item index =
     (row : ℕ) × Names candidates item index row × IsFree occupants row
+
+-- an item stands at each candidate of this item
+abbrev pub AllTaken : List (List ℕ) → List (Option ℕ) → ℕ → Type 0
+AllTaken candidates occupants item =
+    (index row : ℕ) → Names candidates item index row → IsSome (occupant_at occupants row)

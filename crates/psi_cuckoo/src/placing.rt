@@ -1,5 +1,6 @@
 // A placement of all items, or the items that exclude one.
-ghost use Rattle.std.specs.Prelude.{◌≡◌, ◌<◌, ◌+◌, ◌≤◌, ℕ, [], All, IfErr, IfNone, IfOk, IfSome, IsOkUnless, OnOk, length, map};
+ghost use Rattle.std.specs.Prelude.{◌≡◌, ◌<◌, ◌+◌, ◌≤◌, ◌≢◌, ℕ, [], All, IfErr, IfNone, IfOk, IfSome, IsOkUnless, None, OnOk, Some, if◌then◌else◌, is_some, length, map};
+ghost use Rattle.psi_spec.specs.Picking.{picked};
 ghost use Rattle.psi_spec.specs.Limits.{bins_for, limit_items, stash_limit};
 ghost use Rattle.psi_spec.specs.Placement.{IsPlacement};
 ghost use Rattle.psi_spec.specs.CrowdedLists.{IsCrowded, touched_by};
@@ -36,6 +37,8 @@ fn seat_or_refuse(
     ensures touched { IfOk result (λ crowd. IfSome crowd
         (λ items. length items ≡ touched_by task.now.candidates.now items + (task.now.stash + 1))) }
     ensures few { IfOk result (λ crowd. IfSome crowd (λ items. length items ≤ length task.now.candidates.now)) }
+    ensures picks { IfOk result (λ crowd. picked task.now.stash task.now.bins task.now.candidates.now
+        ≡ (if is_some crowd then None else Some (map slot_of table.new.slots.items))) }
 {
     if seat_all(task, table, search)? {
         return Ok(None);
@@ -50,9 +53,11 @@ fn seat_or_refuse(
 /// There is at least one bin, and at most as many as for `LIMIT_ITEMS` items; each candidate is a bin. There are at
 /// most `LIMIT_ITEMS` items and `STASH_LIMIT` rows of the stash.
 ///
-/// Items are put in one after another. Where all candidates of one are taken, a breadth-first search from the items in
-/// the stash finds a path of moves to a free bin, as for bipartite matching. Where there is none, the items that it
-/// reached are the crowded list, after Hall's theorem.
+/// Items are put in one after another. An item takes its first free candidate. Where it has none, a breadth-first
+/// search from it alone looks for a path of moves to a free bin, as for bipartite matching. Where there is no such
+/// path, the item takes the first free row of the stash. Only where the stash is full does the search begin with the
+/// stash's items too. Where that finds no path either, the items that it reached are the crowded list, after Hall's
+/// theorem.
 pub fn place(alloc: Global, cands: &[[u32; 3]], bins: u32, stash: u8) -> Result<Placement, NoFit>
     requires some_bins { 1 ≤ bins }
     requires few_bins { bins ≤ bins_for limit_items }
@@ -64,6 +69,10 @@ pub fn place(alloc: Global, cands: &[[u32; 3]], bins: u32, stash: u8) -> Result<
 
     // Items that have a placement are not refused.
     ensures found { HasPlacement stash bins cands.now → IsOkUnless result fit.NoMemory }
+
+    // It is the picked one, which depends on nothing else, and none is picked where items are refused.
+    ensures picked { IfOk result (λ slots. picked stash bins cands.now ≡ Some slots) }
+    ensures none_picked { IfErr result (λ e. e ≢ fit.NoMemory → picked stash bins cands.now ≡ None) }
 {
     let task = Task {
         candidates: cands,

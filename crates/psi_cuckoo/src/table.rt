@@ -1,7 +1,9 @@
 // Items in rows.
-ghost use Rattle.std.specs.Prelude.{◌≡◌, ◌<◌, ◌+◌, ◌-◌, ◌*◌, ◌^◌, ◌≤◌, ◌++◌, ◌∷◌, [], ℕ, Some, None, IsSome, IfOk, IfSome, IfNone, OnOk, length, replicate, slice_index_or, slice_set};
-ghost use Rattle.psi_spec.specs.Placement.{MayHave};
-ghost use Rattle.psi_cuckoo.specs.Table.{IsTask, IsTable, IsFree, Names, occupant_at, slot_at, slot_of};
+ghost use Rattle.std.specs.Prelude.{◌≡◌, ◌<◌, ◌+◌, ◌-◌, ◌*◌, ◌^◌, ◌≤◌, ◌++◌, ◌∷◌, [], ℕ, Some, None, IsSome, IfOk, IfSome, IfNone, OnOk, length, map, option_map, replicate, slice_index_or, slice_set};
+ghost use Rattle.psi_spec.specs.Placement.{MayHave, stash_slots};
+ghost use Rattle.psi_spec.specs.Picking.{choices_of, first_free};
+ghost use Rattle.psi_cuckoo.specs.Picks.{stash_slot};
+ghost use Rattle.psi_cuckoo.specs.Table.{AllTaken, AreOccupants, IsTask, IsTable, IsFree, Names, occupant_at, slot_at, slot_of};
 
 use crate::slot::Slot;
 use psi_base::NoMemory;
@@ -86,12 +88,15 @@ impl Table {
         requires task { IsTask task.now }
         requires rows { task.now.bins ≤ length self.now.occupants.items }
         requires item { item < length task.now.candidates.now }
+        requires standing { AreOccupants self.now.slots.items self.now.occupants.items }
         ensures may { (spare : ℕ) → IfSome result
             (λ slot. MayHave spare task.now.bins (slice_index_or task.now.candidates.now item []) (slot_of slot)) }
         ensures free { IfSome result (λ slot. IsFree self.now.occupants.items slot.row) }
         ensures bin { IfSome result (λ slot. slot.row < task.now.bins) }
-        ensures full { IfNone result ((index row : ℕ) → Names task.now.candidates.now item index row
-            → IsSome (occupant_at self.now.occupants.items row)) }
+        ensures named { IfSome result (λ slot. Names task.now.candidates.now item slot.index slot.row) }
+        ensures full { IfNone result (AllTaken task.now.candidates.now self.now.occupants.items item) }
+        ensures first { first_free (map slot_of self.now.slots.items) (choices_of task.now.candidates.now item)
+            ≡ option_map slot_of result }
     {
         for index in 1..4u8 {
             let row = task.candidate(item, index);
@@ -102,21 +107,23 @@ impl Table {
         None
     }
 
-    /// The first free row behind the bins: one of the stash, or the one where an item waits.
-    pub fn free_stash_row(&self, task: &Task<'_>) -> u32
+    /// The first free row of the stash.
+    pub fn free_stash_row(&self, task: &Task<'_>) -> Option<u32>
         requires task { IsTask task.now }
         requires rows { length self.now.occupants.items ≡ task.now.bins + (task.now.stash + 1) }
-        requires waiting { IsFree self.now.occupants.items (task.now.bins + task.now.stash) }
-        ensures free { IsFree self.now.occupants.items result }
-        ensures behind { task.now.bins ≤ result }
-        ensures full { (row : ℕ) → task.now.bins ≤ row → row < result
-            → IsSome (occupant_at self.now.occupants.items row) }
+        requires standing { AreOccupants self.now.slots.items self.now.occupants.items }
+        ensures free { IfSome result (λ row. IsFree self.now.occupants.items row) }
+        ensures behind { IfSome result (λ row. task.now.bins ≤ row) }
+        ensures full { IfNone result ((row : ℕ) → task.now.bins ≤ row → row < task.now.bins + task.now.stash
+            → IsSome (occupant_at self.now.occupants.items row)) }
+        ensures first { first_free (map slot_of self.now.slots.items) (stash_slots task.now.bins task.now.stash)
+            ≡ option_map stash_slot result }
     {
         for row in task.bins..task.bins + task.stash {
             if self.occupants[row as usize].is_none() {
-                return row;
+                return Some(row);
             }
         }
-        task.bins + task.stash
+        None
     }
 }
