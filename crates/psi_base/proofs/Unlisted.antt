@@ -2,7 +2,7 @@
 use Rattle.std.proofs.Common.{◌≡◌, ◌+◌, ◌∙◌, ℕ, Bool, true, false, List, Option, Some, None, Ok, Err, OnOk, OnErr, ap, sym, subst, refl, nat_lt, length, if◌then◌else◌}
 use Rattle.std.specs.declared.result.Result.{Result}
 use Rattle.psi_base.specs.State.{State, content_answer, read_answer, outside_of, ReadsExactly, WritesExactly, PrintsExactly, OpensExactly, ReceivesExactly, SendsExactly}
-use Rattle.psi_base.specs.Outside.{nothing_known, WriteStarved, partly_written, Reads, Writes, Prints, Opens, Receives, Sends}
+use Rattle.psi_base.specs.Outside.{nothing_known, Link, WriteStarved, partly_written, Reads, Writes, Prints, Opens, Receives, Sends}
 use Rattle.psi_base.specs.Steady.{NoneListed, steadied, steady_outside_of}
 use Rattle.psi_base.specs.declared.faults.Failed.{Failed}
 use Rattle.psi_base.specs.declared.faults.Fault.{Fault}
@@ -37,7 +37,7 @@ unlisted_after old changed (Err _) new before after done refused = subst NoneLis
 -- a read, in a steady outside; and no call is listed after it
 pub reads_steady : (old : State) (name : List ℕ) (max : ℕ) (r : Result (List ℕ) ReadFault) (new : State) → NoneListed old → Reads nothing_known (outside_of old) name max r (outside_of new) → ReadsExactly old name max r new → Reads nothing_known (steady_outside_of old) name max r (steady_outside_of new) × NoneListed new
 reads_steady old name max (Ok bytes) new none h exact = ((h.0, h.1, tt, ap steadied h.3), subst NoneListed (sym exact.1) none)
-reads_steady old name max (Err read.Failed) new none h exact = (record { rose = h.rose; missing = λ _. missing_file old name max none exact.0; left = ap steadied h.left }, subst NoneListed (sym exact.1) none)
+reads_steady old name max (Err read.Failed) new none h exact = (record { failed = tt; rose = h.rose; missing = λ _. missing_file old name max none exact.0; left = ap steadied h.left }, subst NoneListed (sym exact.1) none)
 reads_steady old name max (Err (read.TooLong taken)) new none h exact = ((h.0, h.1, ap steadied h.2), subst NoneListed (sym exact.1) none)
 reads_steady old name max (Err read.NoMemory) new none h exact = (ap steadied h, subst NoneListed (sym exact.1) none)
 
@@ -50,7 +50,7 @@ refused_steady old name bytes new h = record { part = h.part; rose = h.rose; lef
     left (Some count) e = ap steadied e
 
 -- a write, likewise
-pub writes_steady : (old : State) (name bytes : List ℕ) (r : Result (Unit {0}) Fault) (new : State) → NoneListed old → Writes (outside_of old) name bytes r (outside_of new) → WritesExactly old name bytes r new → Writes (steady_outside_of old) name bytes r (steady_outside_of new) × NoneListed new
+pub writes_steady : (old : State) (name bytes : List ℕ) (r : Result (Unit {0}) Fault) (new : State) → NoneListed old → Writes nothing_known (outside_of old) name bytes r (outside_of new) → WritesExactly old name bytes r new → Writes nothing_known (steady_outside_of old) name bytes r (steady_outside_of new) × NoneListed new
 writes_steady old name bytes (Ok _) new none h exact = (ap steadied h, subst NoneListed (sym exact.1) none)
 writes_steady old name bytes (Err fault.Failed) new none h exact = absurd (never (none old.file_calls.made).0 exact.0)
 writes_steady old name bytes (Err fault.NoMemory) new none h exact = (refused_steady old name bytes new h, subst NoneListed (sym exact.1) none)
@@ -62,10 +62,10 @@ prints_steady old bytes (Err fault.Failed) new none h exact = absurd (never (non
 prints_steady old bytes (Err fault.NoMemory) new none h exact = (record { rose = h.rose; left = ap steadied h.left }, subst NoneListed (sym exact.1) none)
 
 -- an opening of the link, likewise
-pub opens_steady : (old : State) (r : Result (Unit {0}) Fault) (new : State) → NoneListed old → OpensExactly old r new → Opens (steady_outside_of old) r (steady_outside_of new) × NoneListed new
-opens_steady old (Ok _) new none exact = (ap steady_outside_of exact.1, subst NoneListed (sym exact.1) none)
-opens_steady old (Err fault.Failed) new none exact = absurd (never (none old.link_calls.made).1 exact.0)
-opens_steady old (Err fault.NoMemory) new none exact = absurd exact
+pub opens_steady : (old : State) (link : Link) (r : Result (Unit {0}) Fault) (new : State) → NoneListed old → Opens nothing_known (outside_of old) link r (outside_of new) → OpensExactly old link r new → Opens nothing_known (steady_outside_of old) link r (steady_outside_of new) × NoneListed new
+opens_steady old link (Ok _) new none h exact = (ap steady_outside_of exact.1, subst NoneListed (sym exact.1) none)
+opens_steady old link (Err fault.Failed) new none h exact = absurd (never (none old.link_calls.made).1 exact.0)
+opens_steady old link (Err fault.NoMemory) new none h exact = (record { rose = h.rose; left = ap steadied h.left }, subst NoneListed (sym exact.1) none)
 
 -- a receive, likewise
 pub receives_steady : (old : State) (before : List ℕ) (r : Result ℕ Failed) (after : List ℕ) (new : State) → NoneListed old → Receives nothing_known (outside_of old) r after (outside_of new) → ReceivesExactly old before r after new → Receives nothing_known (steady_outside_of old) r after (steady_outside_of new) × NoneListed new

@@ -7,6 +7,7 @@ use Rattle.psi_base.specs.declared.faults.Fault.{Fault}
 use Rattle.psi_base.specs.declared.faults.Fault.TheVariants as fault
 use Rattle.psi_base.specs.declared.faults.ReadFault.{ReadFault}
 use Rattle.psi_base.specs.declared.faults.ReadFault.TheVariants as read
+use Rattle.psi_base.specs.declared.opening.Side.{Side}
 
 -- the contents of the files, by the bytes of their names
 abbrev pub Files : Type 0
@@ -15,6 +16,14 @@ Files = List ℕ → Option (List ℕ)
 -- the files after this one was put
 abbrev pub with_file : Files → List ℕ → List ℕ → Files
 with_file files name bytes = λ other. if bytes_eq name other then Some bytes else files other
+
+-- how a link is opened: who begins the connection, and at which address
+pub record Link : Type 0 where
+  pub side : Side
+  pub address : List ℕ
+
+abbrev pub link_to : Side → List ℕ → Link
+link_to side address = record { side = side; address = address }
 
 -- the outside; a content that it does not tell is None
 pub record Outside : Type 0 where
@@ -28,6 +37,7 @@ pub record Outside : Type 0 where
   pub ends : ℕ  -- how often a receive found that nothing more comes
   pub refusals : ℕ  -- how often memory was wanting
   pub ready : Bool  -- whether the link is open
+  pub opened : Option Link  -- how the link was opened last, if it was
   pub steady : Bool  -- whether it never fails but for a file that is missing
 
 -- the file of this name has just these bytes, where the files are told
@@ -43,13 +53,31 @@ HasAtLeast files name count =
 abbrev pub LacksFile : Option Files → List ℕ → Type 0
 LacksFile files name = IfSome files (λ told. told name ≡ None)
 
+-- a call that may fail for its name or address: a read or a write of the file of a name, or an opening of a link
+pub data Call : Type 0 where
+  reading : List ℕ → Call
+  writing : List ℕ → Call
+  opening : Link → Call
+
+-- what calls alone make known: what a read of the file of a name may answer, what a receive may take, and which call
+-- failed
+pub record Known : Type 1 where
+  pub gives : List ℕ → List ℕ → Type 0
+  pub comes : List ℕ → Type 0
+  pub fails : Call → Type 0
+
+-- nothing is known but what the contents tell
+abbrev pub nothing_known : Known
+nothing_known = record { gives = λ name bytes. Unit {0}; comes = λ bytes. Unit {0}; fails = λ call. Unit {0} }
+
 -- a count is greater than before, or stands at the greatest u64
 pub record Rose (before now : ℕ) : Type 0 where
   pub no_lower : before ≤ now
   pub more : min (before + 1) (2 ^ 64 - 1) ≤ now
 
 -- a file was not read: that was counted, and nothing else changed; a steady outside only lacks the file
-pub record FileFailed (old : Outside) (name : List ℕ) (new : Outside) : Type 0 where
+pub record FileFailed (known : Known) (old : Outside) (name : List ℕ) (new : Outside) : Type 0 where
+  pub failed : known.fails (reading name)
   pub rose : Rose old.file_faults new.file_faults
   pub missing : IsTrue old.steady → LacksFile old.files name
   pub left : new ≡ record old { file_faults = new.file_faults }
@@ -76,20 +104,11 @@ abbrev pub as_list : {E : Type 0} → Result (Vec ℕ Global) E → Result (List
 as_list (Ok bytes) = Ok bytes.items
 as_list (Err error) = Err error
 
--- what calls alone make known: what a read of the file of a name may answer, and what a receive may take
-pub record Known : Type 1 where
-  pub gives : List ℕ → List ℕ → Type 0
-  pub comes : List ℕ → Type 0
-
--- nothing is known but what the contents tell
-abbrev pub nothing_known : Known
-nothing_known = record { gives = λ name bytes. Unit {0}; comes = λ bytes. Unit {0} }
-
 -- what a read of at most max bytes of a file may answer and leave
 abbrev pub Reads : Known → Outside → List ℕ → ℕ → Result (List ℕ) ReadFault → Outside → Type 0
 Reads known old name max (Ok bytes) new =
     (length bytes ≤ max) × HasFile old.files name bytes × known.gives name bytes × (new ≡ old)
-Reads known old name max (Err read.Failed) new = FileFailed old name new
+Reads known old name max (Err read.Failed) new = FileFailed known old name new
 Reads known old name max (Err (read.TooLong taken)) new = (max < taken) × HasAtLeast old.files name taken × (new ≡ old)
 Reads known old name max (Err read.NoMemory) new = new ≡ old
 
@@ -104,7 +123,8 @@ partly_written old name bytes (Some count) = written old name (take count bytes)
 
 -- a write failed: that was counted, and the file is as before or has a front of the bytes; it never happens in a steady
 -- outside
-pub record WriteFailed (old : Outside) (name bytes : List ℕ) (new : Outside) : Type 0 where
+pub record WriteFailed (known : Known) (old : Outside) (name bytes : List ℕ) (new : Outside) : Type 0 where
+  pub failed : known.fails (writing name)
   pub part : Option ℕ
   pub rose : Rose old.file_faults new.file_faults
   pub unsteady : old.steady ≡ false
@@ -117,10 +137,10 @@ pub record WriteStarved (old : Outside) (name bytes : List ℕ) (new : Outside) 
   pub left : new ≡ partly_written (record old { refusals = new.refusals }) name bytes part
 
 -- what a write of a file may answer and leave
-abbrev pub Writes : Outside → List ℕ → List ℕ → Result (Unit {0}) Fault → Outside → Type 0
-Writes old name bytes (Ok _) new = new ≡ written old name bytes
-Writes old name bytes (Err fault.Failed) new = WriteFailed old name bytes new
-Writes old name bytes (Err fault.NoMemory) new = WriteStarved old name bytes new
+abbrev pub Writes : Known → Outside → List ℕ → List ℕ → Result (Unit {0}) Fault → Outside → Type 0
+Writes known old name bytes (Ok _) new = new ≡ written old name bytes
+Writes known old name bytes (Err fault.Failed) new = WriteFailed known old name bytes new
+Writes known old name bytes (Err fault.NoMemory) new = WriteStarved old name bytes new
 
 -- the outside after these bytes were printed too
 abbrev pub printed_too : Outside → List ℕ → Outside
@@ -140,11 +160,15 @@ PrintsAll old bytes (Err fault.Failed) new =
 PrintsAll old bytes (Err fault.NoMemory) new =
     (k : ℕ) × (k < length bytes) × Starved (printed_too old (take k bytes)) new
 
--- what an opening of the link may answer and leave
-abbrev pub Opens : Outside → Result (Unit {0}) Fault → Outside → Type 0
-Opens old (Ok _) new = new ≡ record old { ready = true }
-Opens old (Err fault.Failed) new = LinkFailed old new
-Opens old (Err fault.NoMemory) new = Starved old new
+-- the outside after its link was opened so
+abbrev pub linked : Outside → Link → Outside
+linked old link = record old { ready = true; opened = Some link }
+
+-- what an opening of a link may answer and leave
+abbrev pub Opens : Known → Outside → Link → Result (Unit {0}) Fault → Outside → Type 0
+Opens known old link (Ok _) new = new ≡ linked old link
+Opens known old link (Err fault.Failed) new = known.fails (opening link) × LinkFailed old new
+Opens known old link (Err fault.NoMemory) new = Starved old new
 
 -- so many bytes came, which are the front of the buffer; none come only where that was counted as an end, and nothing
 -- is left where that is told

@@ -1,11 +1,11 @@
 -- The world in memory as contracts see it.
-use Rattle.std.specs.Prelude.{◌≡◌, ◌+◌, ◌-◌, ◌^◌, ◌++◌, ◌==◌, ◌||◌, ℕ, Bool, true, false, List, [], length, min, nat_lt, Option, Some, None, Result, Ok, Err, IsOk, option_map, if◌then◌else◌}
+use Rattle.std.specs.Prelude.{◌≡◌, ◌+◌, ◌-◌, ◌^◌, ◌++◌, ◌==◌, ◌||◌, ℕ, Bool, true, false, List, [], length, min, nat_lt, Option, Some, None, Result, Ok, Err, IsOk, option_map, string_bytes, if◌then◌else◌}
 use Rattle.std.specs.BTreeMap.{get_by_text}
 use Rattle.std.specs.BTreeSet.{contains}
 use Rattle.std.specs.Ordering.{nat_cmp}
 use Rattle.psi_base.specs.Front.{front}
 use Rattle.psi_base.specs.Incoming.{Coming, no_coming, next_len, coming_after, buffer_after}
-use Rattle.psi_base.specs.Outside.{Files, Outside, with_file}
+use Rattle.psi_base.specs.Outside.{Files, Link, Outside, with_file}
 use Rattle.psi_base.specs.declared.faults.Failed.{Failed}
 use Rattle.psi_base.specs.declared.faults.Fault.{Fault}
 use Rattle.psi_base.specs.declared.faults.Fault.TheVariants as fault
@@ -15,6 +15,7 @@ use Rattle.psi_base.specs.declared.faults.ReadFault.{ReadFault}
 use Rattle.psi_base.specs.declared.faults.ReadFault.TheVariants as read
 use Rattle.psi_base.specs.declared.folder.Folder.{Folder}
 use Rattle.psi_base.specs.declared.memory.MemWorld.{MemWorld}
+use Rattle.psi_base.specs.declared.opening.Opened.{Opened}
 use Rattle.psi_base.specs.declared.schedule.Schedule.{Schedule}
 
 -- the calls of one kind: whether the nth is listed to fail, how many were made, and how many failed
@@ -36,6 +37,7 @@ pub record State : Type 0 where
   pub ends : ℕ
   pub refusals : ℕ
   pub ready : Bool
+  pub opened : Option Link  -- how the link was opened last, if it was
 
 -- the files of a folder
 abbrev pub files_of : Folder → Files
@@ -48,6 +50,10 @@ no_files = λ name. None
 -- what a schedule holds
 abbrev pub calls_of : Schedule → Calls
 calls_of calls = record { listed = contains nat_cmp calls.listed; made = calls.made; faults = calls.faults }
+
+-- how a link was opened
+abbrev pub link_of : Opened → Link
+link_of opened = record { side = opened.side; address = string_bytes opened.address }
 
 -- what a world in memory holds
 abbrev pub state_of : MemWorld → State
@@ -63,6 +69,7 @@ state_of world = record {
   ends = world.ends;
   refusals = world.refusals;
   ready = world.ready;
+  opened = option_map link_of world.opened;
 }
 
 -- what it tells: all its contents; it is not steady
@@ -78,6 +85,7 @@ outside_of m = record {
   ends = m.ends;
   refusals = m.refusals;
   ready = m.ready;
+  opened = m.opened;
   steady = false;
 }
 
@@ -99,6 +107,7 @@ empty_state = record {
   ends = 0;
   refusals = 0;
   ready = false;
+  opened = None;
 }
 
 -- one more, up to the greatest u64
@@ -205,12 +214,15 @@ PrintsExactly old bytes (Err fault.Failed) new =
 PrintsExactly old bytes (Err fault.NoMemory) new =
     (next_listed old.print_calls ≡ false) × (new ≡ state_with_refusal (state_with_print_call old))
 
--- what an opening of the link answers and leaves: a listed one fails
-abbrev pub OpensExactly : State → Result (Unit {0}) Fault → State → Type 0
-OpensExactly old (Ok _) new =
-    (next_listed old.link_calls ≡ false) × (new ≡ record (state_with_link_call old) { ready = true })
-OpensExactly old (Err fault.Failed) new = (next_listed old.link_calls ≡ true) × (new ≡ state_with_link_fault old)
-OpensExactly old (Err fault.NoMemory) new = ⊥
+-- what an opening of a link answers and leaves: a listed one fails, and another is done, if memory lasts for the
+-- address
+abbrev pub OpensExactly : State → Link → Result (Unit {0}) Fault → State → Type 0
+OpensExactly old link (Ok _) new =
+    (next_listed old.link_calls ≡ false)
+    × (new ≡ record (state_with_link_call old) { ready = true; opened = Some link })
+OpensExactly old link (Err fault.Failed) new = (next_listed old.link_calls ≡ true) × (new ≡ state_with_link_fault old)
+OpensExactly old link (Err fault.NoMemory) new =
+    (next_listed old.link_calls ≡ false) × (new ≡ state_with_refusal (state_with_link_call old))
 
 -- the ends that were met, after so many bytes came
 abbrev pub ends_after : ℕ → ℕ → ℕ

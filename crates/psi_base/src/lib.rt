@@ -7,6 +7,7 @@ mod folder;
 mod incoming;
 mod limits;
 mod memory;
+mod opening;
 mod places;
 mod quiet;
 mod schedule;
@@ -19,10 +20,11 @@ pub use limits::{
     USUAL_STASH, bins, rows,
 };
 pub use memory::MemWorld;
+pub use opening::{Opened, Side};
 pub use places::{Pairs, Places};
 pub use quiet::QuietMem;
 pub use words::Words;
-pub use world::{Side, World, print_all};
+pub use world::{World, print_all};
 
 #[cfg(test)]
 mod tests;

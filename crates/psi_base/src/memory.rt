@@ -6,7 +6,7 @@ ghost use Rattle.psi_base.specs.Front.{front};
 use crate::folder::Folder;
 use crate::incoming::Incoming;
 use crate::schedule::Schedule;
-use crate::{Failed, Fault, FaultKind, NoMemory, ReadFault, Side, World};
+use crate::{Failed, Fault, FaultKind, NoMemory, Opened, ReadFault, Side, World};
 use std::alloc::Global;
 
 /// Files, printed bytes and a link in memory. It tells all of them, and fails at the calls that are
@@ -24,6 +24,7 @@ pub struct MemWorld {
     ends: u64,
     refusals: u64,
     ready: bool,
+    opened: Option<Opened>,
     alloc: Global,
     ghost some: { ForSome most (λ n. 0 < n) },
 }
@@ -31,6 +32,7 @@ pub struct MemWorld {
 impl MemWorld {
     ghost use Rattle.psi_base.specs.State.{state_of, empty_state, state_with_file};
     ghost use Rattle.psi_base.specs.State.{state_with_incoming, state_with_failure, state_with_most};
+    ghost use Rattle.psi_base.specs.Outside.{link_to};
 
     /// No files, no bytes, a link that is not ready, and no call is listed to fail.
     pub fn new(alloc: Global) -> MemWorld
@@ -48,6 +50,7 @@ impl MemWorld {
             ends: 0,
             refusals: 0,
             ready: false,
+            opened: None,
             alloc,
         }
     }
@@ -117,6 +120,15 @@ impl MemWorld {
         &self.outgoing
     }
 
+    /// How the link was opened last, by its side and address, and None where it never was.
+    pub fn opened(&self) -> Option<(Side, &str)>
+        ensures { option_map (λ link. link_to link.0 link.1.now) result ≡ (state_of self.now).opened }
+    {
+        self.opened
+            .as_ref()
+            .map(|opened| (opened.side, opened.address.as_str()))
+    }
+
     /// The bytes that are still to come over the link.
     pub fn left(&self) -> &[u8]
         ensures { result.now ≡ (state_of self.now).incoming.bytes }
@@ -126,7 +138,7 @@ impl MemWorld {
 }
 
 impl World for MemWorld {
-    ghost use Rattle.psi_base.specs.Outside.{Outside, Opens, Prints, Reads, Receives};
+    ghost use Rattle.psi_base.specs.Outside.{Outside, Opens, Prints, Reads, Receives, link_to};
     ghost use Rattle.psi_base.specs.Outside.{Sends, Writes, as_list, nothing_known};
     ghost use Rattle.psi_base.specs.State.{state_of, outside_of, ReadsExactly, WritesExactly};
     ghost use Rattle.psi_base.specs.State.{PrintsExactly, OpensExactly, ReceivesExactly, SendsExactly};
@@ -159,7 +171,7 @@ impl World for MemWorld {
     /// it was.
     fn write_file(&mut self, name: &str, bytes: &[u8]) -> Result<(), Fault>
         ensures writes { let old = state_of self.old in
-            Writes (outside_of old) name.now bytes.now result (outside_of (state_of self.new)) }
+            Writes nothing_known (outside_of old) name.now bytes.now result (outside_of (state_of self.new)) }
         ensures exact { let old = state_of self.old in
             WritesExactly old name.now bytes.now result (state_of self.new) }
     {
@@ -193,14 +205,23 @@ impl World for MemWorld {
     }
 
     /// As `World` says. It fails just where this call is listed.
-    fn open_link(&mut self, _side: Side, _address: &str) -> Result<(), Fault>
+    fn open_link(&mut self, side: Side, address: &str) -> Result<(), Fault>
         ensures opens { let old = state_of self.old in
-            Opens (outside_of old) result (outside_of (state_of self.new)) }
-        ensures exact { OpensExactly (state_of self.old) result (state_of self.new) }
+            Opens nothing_known (outside_of old) (link_to side address.now) result (outside_of (state_of self.new)) }
+        ensures exact { OpensExactly (state_of self.old) (link_to side address.now) result (state_of self.new) }
     {
         self.link_calls.begin()?;
-        self.ready = true;
-        Ok(())
+        match address.to_string(self.alloc) {
+            Ok(address) => {
+                self.opened = Some(Opened { side, address });
+                self.ready = true;
+                Ok(())
+            }
+            Err(_) => {
+                self.refusals = self.refusals.saturating_add(1);
+                Err(Fault::NoMemory)
+            }
+        }
     }
 
     /// As `World` says. It fails just where this call is listed, and else takes as many bytes as the

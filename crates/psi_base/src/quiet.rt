@@ -17,6 +17,7 @@ pub struct QuietMem {
 impl QuietMem {
     ghost use Rattle.psi_base.specs.State.{empty_state, state_with_file, state_with_incoming, state_with_most};
     ghost use Rattle.psi_base.specs.Quiet.{quiet_of};
+    ghost use Rattle.psi_base.specs.Outside.{link_to};
 
     /// No files, no bytes, and a link that is not ready.
     pub fn new(alloc: Global) -> QuietMem
@@ -76,6 +77,13 @@ impl QuietMem {
         self.world.outgoing()
     }
 
+    /// How the link was opened last, by its side and address, and None where it never was.
+    pub fn opened(&self) -> Option<(Side, &str)>
+        ensures { option_map (λ link. link_to link.0 link.1.now) result ≡ (quiet_of self.now).opened }
+    {
+        self.world.opened()
+    }
+
     /// The bytes that are still to come over the link.
     pub fn left(&self) -> &[u8]
         ensures { result.now ≡ (quiet_of self.now).incoming.bytes }
@@ -85,7 +93,8 @@ impl QuietMem {
 }
 
 impl World for QuietMem {
-    ghost use Rattle.psi_base.specs.Outside.{Opens, Prints, Reads, Receives, Sends, Writes, as_list, nothing_known};
+    ghost use Rattle.psi_base.specs.Outside.{Opens, Prints, Reads, Receives, Sends, Writes, as_list};
+    ghost use Rattle.psi_base.specs.Outside.{link_to, nothing_known};
     ghost use Rattle.psi_base.specs.State.{ReadsExactly, WritesExactly, PrintsExactly};
     ghost use Rattle.psi_base.specs.State.{OpensExactly, ReceivesExactly, SendsExactly};
     ghost use Rattle.psi_base.specs.Quiet.{quiet_of};
@@ -108,7 +117,8 @@ impl World for QuietMem {
     /// As `World` says. A refused write leaves the file as it was.
     fn write_file(&mut self, name: &str, bytes: &[u8]) -> Result<(), Fault>
         ensures writes { let old = quiet_of self.old in
-            Writes (steady_outside_of old) name.now bytes.now result (steady_outside_of (quiet_of self.new)) }
+            Writes nothing_known (steady_outside_of old) name.now bytes.now result
+            (steady_outside_of (quiet_of self.new)) }
         ensures exact { let old = quiet_of self.old in
             WritesExactly old name.now bytes.now result (quiet_of self.new) }
     {
@@ -125,11 +135,12 @@ impl World for QuietMem {
         self.world.print(bytes)
     }
 
-    /// As `World` says. It is always done.
+    /// As `World` says. It is done, if memory lasts for the address.
     fn open_link(&mut self, side: Side, address: &str) -> Result<(), Fault>
         ensures opens { let old = quiet_of self.old in
-            Opens (steady_outside_of old) result (steady_outside_of (quiet_of self.new)) }
-        ensures exact { OpensExactly (quiet_of self.old) result (quiet_of self.new) }
+            Opens nothing_known (steady_outside_of old) (link_to side address.now) result
+            (steady_outside_of (quiet_of self.new)) }
+        ensures exact { OpensExactly (quiet_of self.old) (link_to side address.now) result (quiet_of self.new) }
     {
         self.world.open_link(side, address)
     }

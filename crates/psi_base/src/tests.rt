@@ -135,7 +135,9 @@ fn listed_link_calls_fail(rt: HostRuntime) -> Result<(), Fail> {
     }
     let mut buffer = [0; 4];
     assert_eq!(rt; world.open_link(Side::Connect, "peer"), Err(Fault::Failed));
+    assert_eq!(rt; world.opened(), None);
     world.open_link(Side::Connect, "peer")?;
+    assert_eq!(rt; world.opened(), Some((Side::Connect, "peer")));
     assert_eq!(rt; world.recv(&mut buffer), Err(Failed));
     assert_eq!(rt; world.recv(&mut buffer), Ok(2));
     assert_eq!(rt; world.send(b"out"), Err(Fault::Failed));

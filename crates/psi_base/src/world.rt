@@ -1,30 +1,23 @@
 // The outside as a trait with one ghost record, and a loop over its prints.
 ghost use Rattle.std.specs.Prelude.{◌<◌, length, IsSome, IsTrue};
-ghost use Rattle.psi_base.specs.Outside.{Known, Outside, Opens, Prints, PrintsAll, Reads, Receives, Sends, Writes, as_list};
+ghost use Rattle.psi_base.specs.Outside.{Known, Outside, Opens, Prints, PrintsAll, Reads, Receives, Sends, Writes, as_list, link_to};
 
-use crate::{Failed, Fault, ReadFault};
+use crate::{Failed, Fault, ReadFault, Side};
 use std::alloc::Global;
-
-/// Who begins the connection of a link.
-#[derive(Clone, Copy, Debug, PartialEq, Eq)]
-pub enum Side {
-    /// This end connects to the address.
-    Connect,
-    /// This end waits at the address for one connection.
-    Listen,
-}
 
 /// The outside of a run: its files, the text that it prints, and its link to a peer.
 ///
 /// A call that is done raises no count, but for a receive that finds the end of the link. A call that is
 /// refused raises the count of its cause and changes nothing else, but for a write, which may leave a
-/// front of the bytes. No call tells whether the outside is steady.
+/// front of the bytes. How the link was opened last is told in every outside, as the counts are. No call
+/// tells whether the outside is steady.
 pub trait World {
     /// What the outside holds, as far as it tells, and how often a call of it was refused.
     ghost outside: { Self → Outside };
 
-    /// What a read of the file of a name may answer, and what a receive may take. Nothing but such a call makes
-    /// it known, so what rests on a content rests on one that was read, also in an outside that tells no files.
+    /// What a read of the file of a name may answer, what a receive may take, and which call fails for its name
+    /// or address. Nothing but such a call makes it known, so what rests on a content or on a failure rests on a
+    /// call that gave it, also in an outside that tells no files.
     ghost known: { Known };
 
     /// The whole content of the file of this name, which has at most `max` bytes.
@@ -40,7 +33,7 @@ pub trait World {
     /// `Failed` comes only where the count of file faults rose, and `NoMemory` only where the count of
     /// refusals rose. After a refused write the file is as before, or has a front of the bytes.
     fn write_file(&mut self, name: &str, bytes: &[u8]) -> Result<(), Fault>
-        ensures { Writes (outside self.old) name.now bytes.now result (outside self.new) };
+        ensures { Writes known (outside self.old) name.now bytes.now result (outside self.new) };
 
     /// Prints a front of the bytes, at least one of them, and answers how many bytes that were.
     ///
@@ -50,12 +43,12 @@ pub trait World {
         requires { 0 < length bytes.now }
         ensures { Prints (outside self.old) bytes.now result (outside self.new) };
 
-    /// Opens the link to a peer, which is then ready.
+    /// Opens the link to a peer, which is then ready: connects to the address, or waits there for one connection.
     ///
     /// `Failed` comes only where the count of link faults rose, and `NoMemory` only where the count of
     /// refusals rose. A refused opening leaves the link as it was.
     fn open_link(&mut self, side: Side, address: &str) -> Result<(), Fault>
-        ensures { Opens (outside self.old) result (outside self.new) };
+        ensures { Opens known (outside self.old) (link_to side address.now) result (outside self.new) };
 
     /// Takes the next bytes of the link into the front of the buffer, and answers how many they are.
     ///
