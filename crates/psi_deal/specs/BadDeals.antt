@@ -1,5 +1,5 @@
 -- Why there is no deal.
-use Rattle.std.specs.Prelude.{◌≡◌, ℕ, ◌==◌, ◌&&◌, Bool, not, nat_lt, List, length, slice_index, Option, Some, None, Result, Ok, Err, ⊤, if◌then◌else◌}
+use Rattle.std.specs.Prelude.{◌≡◌, ℕ, ◌==◌, ◌&&◌, Bool, not, nat_lt, List, length, slice_index, Option, Some, None, Result, Ok, Err, if◌then◌else◌}
 use Rattle.psi_spec.specs.Deals.{fits_tag_length, fits_stash}
 use Rattle.psi_spec.specs.DealFiles.{deal_version, has_magic, has_other, is_sealed}
 use Rattle.psi_spec.specs.OldDealFiles.{old_version}
@@ -41,9 +41,9 @@ bad_request tag_length stash =
     else if not (fits_stash stash) then Some (StashRows stash)
     else None
 
--- what is answered: the value where nothing is bad, and else what is bad first; want of memory may come in place of
--- either
+-- what is answered: the value where nothing is bad, and else what is bad first; want of memory may come only where
+-- nothing is bad
 abbrev pub Answers : {V : Type 0} → Option BadDeal → V → Result V BadDeal → Type 0
 Answers bad value (Ok answered) = (bad ≡ None) × (answered ≡ value)
-Answers bad value (Err NoMemory) = ⊤
+Answers bad value (Err NoMemory) = bad ≡ None
 Answers bad value (Err refusal) = bad ≡ Some refusal
