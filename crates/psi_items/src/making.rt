@@ -5,6 +5,7 @@ ghost use Rattle.psi_spec.specs.MadeFiles.{made_file, made_letter, made_line, ma
 ghost use Rattle.psi_items.specs.Making.{is_second};
 
 use itoa::Buffer;
+use psi_base::NoMemory;
 use std::alloc::{AllocError, Global};
 
 /// Which of two files is made.
@@ -70,7 +71,7 @@ pub fn make_file(
     count: u32,
     shared: u32,
     number: u64,
-) -> Result<Vec<u8>, AllocError>
+) -> Result<Vec<u8>, NoMemory>
     requires shared { shared ≤ count }
     requires count { count ≤ limit_items }
     ensures { IfOk result (λ made. made.items ≡ made_file (is_second file) count shared number) }
