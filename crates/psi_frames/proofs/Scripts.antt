@@ -1,5 +1,5 @@
 -- Scripts, frame by frame.
-use Rattle.std.proofs.Common.{◌≡◌, ◌<◌, ◌≤◌, ◌+◌, ◌-◌, ◌∙◌, ℕ, Bool, true, List, [], ◌++◌, length, take, drop, nat_lt, Option, Some, None, Ok, Err, subst, refl, ap, ap₂, arith, append_assoc, length-append}
+use Rattle.std.proofs.Common.{◌≡◌, ◌<◌, ◌≤◌, ◌+◌, ◌-◌, ◌∙◌, ℕ, Bool, true, false, List, [], ◌++◌, length, take, drop, nat_lt, Option, Some, None, Ok, Err, subst, refl, ap, ap₂, arith, append_assoc, length-append}
 use Rattle.std.specs.declared.result.Result.{Result}
 use Rattle.std.proofs.lemmas.Bool.{le-ltb, lt-ltb}
 use Rattle.std.proofs.lemmas.List.{drop_at, take_all, take_at}
@@ -11,7 +11,7 @@ use Rattle.psi_frames.specs.declared.turns.EndFault.{EndFault}
 use Rattle.psi_frames.specs.Converse.{Converses, ConversesWith}
 use Rattle.psi_frames.specs.Dialogue.{Talks, Dialogue, bad, short}
 use Rattle.psi_frames.specs.Expected.{IsBegun, IsValid, frame_at, frame_length, wrong}
-use Rattle.psi_frames.specs.Script.{AreAwaited, IsRead, IsSettled, IsWithin, Script, awaits, by_fault, by_front, dialogue_of, goes_on, over, owed, reading_from, script_of, sends, wire_for}
+use Rattle.psi_frames.specs.Script.{AreAwaited, IsRead, IsSettled, IsWithin, Script, awaits, by_fault, by_front, dialogue_of, goes_on, over, owed, reading_from, script_of, sends, wanted, wanted_of, wire_for}
 use Rattle.psi_frames.proofs.Fed.{take_past}
 use Rattle.psi_frames.proofs.FrameAt.{frame_at_layout}
 use Rattle.psi_frames.proofs.Judged.{wrong_stays}
@@ -48,6 +48,23 @@ owed-begun e next bytes few =
     ap (λ (b : Bool). by_fault (wrong e (take (frame_length e) bytes)) b (λ why. []) [] go (frame_at e (take (frame_length e) bytes))) (lt-ltb (length bytes) (frame_length e) few)
     ∙ same_twice (wrong e (take (frame_length e) bytes)) [] go (frame_at e (take (frame_length e) bytes))
 
+-- ---- how many bytes are wanted
+
+-- of a frame that is only begun, the rest is
+pub wanted_of-begun : (e : Expect) (bytes : List ℕ) → IsBegun e bytes → wanted_of e bytes ≡ frame_length e - length bytes
+wanted_of-begun e bytes begun = by_front-begun e bytes (λ why. 0) (frame_length e - length bytes) (λ f. 0) begun.right begun.short
+
+none_least : (o : Option Reason) (few : Bool) (n : ℕ) (whole : Frame → ℕ) (f : Frame) → by_fault o few (λ why. 0) n (λ g. 0) f ≤ by_fault o few (λ why. 0) n whole f
+none_least (Some why) few n whole f = omega arith
+none_least None true n whole f = omega arith
+none_least None false n whole f = omega arith
+
+-- a script wants no less than the frame that it awaits does
+pub wanted-least : (e : Expect) (next : Frame → Script) (bytes : List ℕ) → wanted_of e bytes ≤ wanted (awaits e next) bytes
+wanted-least e next bytes =
+    none_least (wrong e (take (frame_length e) bytes)) (nat_lt (length bytes) (frame_length e)) (frame_length e - length bytes) (λ f. wanted (next f) (drop (frame_length e) bytes))
+    (frame_at e (take (frame_length e) bytes))
+
 -- ---- a script at the frame that it awaits
 
 -- the frame that is due is whole, and so the bytes after it are read, and owed for, by what comes next
@@ -71,6 +88,15 @@ owed-whole e next f more valid =
     by_front-whole e bytes (λ why. []) [] (λ frame. owed (next frame) (drop (frame_length e) bytes))
     (ap (wrong e) front ∙ valid.right) (omega (arith, valid.long, length-append (layout f) more))
     ∙ ap₂ (λ (frame : Frame) (xs : List ℕ). owed (next frame) xs) (ap (frame_at e) front ∙ frame_at_layout e f valid) back
+
+pub wanted-whole : (e : Expect) (next : Frame → Script) (f : Frame) (more : List ℕ) → IsValid e f → wanted (awaits e next) (layout f ++ more) ≡ wanted (next f) more
+wanted-whole e next f more valid =
+    let bytes : List ℕ = layout f ++ more in
+    let front : take (frame_length e) bytes ≡ layout f = take_at (layout f) more (frame_length e) valid.long in
+    let back : drop (frame_length e) bytes ≡ more = drop_at (layout f) more (frame_length e) valid.long in
+    by_front-whole e bytes (λ why. 0) (frame_length e - length bytes) (λ frame. wanted (next frame) (drop (frame_length e) bytes))
+    (ap (wrong e) front ∙ valid.right) (omega (arith, valid.long, length-append (layout f) more))
+    ∙ ap₂ (λ (frame : Frame) (xs : List ℕ). wanted (next frame) xs) (ap (frame_at e) front ∙ frame_at_layout e f valid) back
 
 -- a field in its place is wrong, whatever follows
 pub reading-wrong : (e : Expect) (next : Frame → Script) (taken bytes more : List ℕ) (why : Reason) → length bytes ≤ frame_length e → wrong e bytes ≡ Some why
@@ -101,6 +127,11 @@ owed-goes_on new over bytes = refl
 owed-goes_on new (sends out rest) bytes =
     append_assoc out (goes_on new rest).owes (owed (goes_on new rest).next bytes) ∙ ap (λ (xs : List ℕ). out ++ xs) (owed-goes_on new rest bytes)
 owed-goes_on new (awaits e next) bytes = refl
+
+pub wanted-goes_on : (new : Bool) (script : Script) (bytes : List ℕ) → wanted (goes_on new script).next bytes ≡ wanted script bytes
+wanted-goes_on new over bytes = refl
+wanted-goes_on new (sends out rest) bytes = wanted-goes_on new rest bytes
+wanted-goes_on new (awaits e next) bytes = refl
 
 pub wire-goes_on : (new : Bool) (script : Script) (frames : List Frame) → (goes_on new script).owes ++ wire_for (goes_on new script).next frames ≡ wire_for script frames
 wire-goes_on new over frames = refl
@@ -133,6 +164,7 @@ pub dialogue-goes_on : (new : Bool) (script : Script) → dialogue_of (script_of
 dialogue-goes_on new script = λ i. record {
   reads_as = λ bytes. reading-goes_on new script [] bytes i;
   owes = λ bytes. owed-goes_on new script bytes i;
+  wants = λ bytes. wanted-goes_on new script bytes i;
 }
 
 -- what is awaited at most is so for any greater number too

@@ -13,6 +13,7 @@ use Rattle.psi_frames.specs.Boxes.{Answers, InboxState, Leaves, MayExpect, after
 use Rattle.psi_frames.specs.Converse.{Came, Heard, Took}
 use Rattle.psi_frames.specs.Expected.{IsBegun, IsValid, IsWhole, frame_length, seen, wrong}
 use Rattle.psi_frames.specs.Script.{EndState, IsPending, Keeps, KeepsOn, after_sending, after_taking}
+use Rattle.psi_frames.proofs.Scripts.{wanted_of-begun}
 use Rattle.psi_frames.proofs.Taken.{received, sent_twice, took_more, took_none}
 
 -- ---- what an end keeps
@@ -65,9 +66,9 @@ missing_by (Some bad) n = omega arith
 
 -- what one receive brings into the inbox
 pub came_of : (known : Known) (e : Expect) (box box' : InboxState) (old new : Outside) (buffer rest : List ℕ) (count : ℕ)
-    → Received known old count buffer new → 0 < count → MayExpect box e → length buffer ≤ missing_of box e → box' ≡ after_feed e (take count (buffer ++ rest)) box
+    → Received known old count buffer new → 0 < count → MayExpect box e → IsBegun e box.held → length buffer ≤ missing_of box e → box' ≡ after_feed e (take count (buffer ++ rest)) box
     → AreBytes (take count (buffer ++ rest)) → Came known e box old box' new
-came_of known e box box' old new buffer rest count took some may few fed small =
+came_of known e box box' old new buffer rest count took some may begun few fed small =
     let piece : List ℕ = take count buffer in
     let same : take count (buffer ++ rest) ≡ piece = take-append-le count buffer rest took.within in
     let long : length piece ≡ count = length-take-le count buffer took.within in
@@ -78,13 +79,13 @@ came_of known e box box' old new buffer rest count took some may few fed small =
       piece = piece;
       some = omega (arith, long, some);
       within = omega (arith, long, missing, few, took.within, length-append box.held piece, may.held, some);
-      took = received known old new count buffer some (subst AreBytes same small) took;
+      took = received known e box.held old new count buffer some (omega (arith, wanted_of-begun e box.held begun, missing, few, took.within)) (subst AreBytes same small) took;
       held = fed ∙ ap (λ (xs : List ℕ). after_feed e xs box) same ∙ ap (λ (xs : List ℕ). record box { held = box.held ++ xs }) held;
     }
 
 -- what came so far begins the frame that is due, and is held
 pub record CameSoFar (known : Known) (e : Expect) (box : InboxState) (old : Outside) (box' : InboxState) (now : Outside) : Type 0 where
-  pub took : Took known old box'.held now
+  pub took : Took known e [] old box'.held now
   pub same : box' ≡ record box { held = box'.held }
   pub begun : IsBegun e box'.held
   pub may : MayExpect box' e
@@ -96,7 +97,7 @@ nothing_wrong e = refl
 
 pub came_none : (known : Known) (e : Expect) (box : InboxState) (o : Outside) → MayExpect box e → box.held ≡ [] → CameSoFar known e box o box o
 came_none known e box o may empty = record {
-  took = subst (λ (xs : List ℕ). Took known o xs o) (sym empty) (took_none known o);
+  took = subst (λ (xs : List ℕ). Took known e [] o xs o) (sym empty) (took_none known e [] o);
   same = refl;
   begun = record { short = omega (arith, ap length empty); right = ap (wrong e) empty ∙ nothing_wrong e };
   may = may;
@@ -104,10 +105,10 @@ came_none known e box o may empty = record {
 
 -- with what one receive brought
 pub came_on : (known : Known) (e : Expect) (box box' box'' : InboxState) (old mid new : Outside) → CameSoFar known e box old box' mid → Came known e box' mid box'' new
-    → Took known old box''.held new × (box'' ≡ record box { held = box''.held })
+    → Took known e [] old box''.held new × (box'' ≡ record box { held = box''.held })
 came_on known e box box' box'' old mid new so_far more =
     let held : box''.held ≡ box'.held ++ more.piece = ap (λ (b : InboxState). b.held) more.held in (
-      subst (λ (xs : List ℕ). Took known old xs new) (sym held) (took_more known old mid new box'.held more.piece so_far.took more.took),
+      subst (λ (xs : List ℕ). Took known e [] old xs new) (sym held) (took_more known e old mid new [] box'.held more.piece so_far.took more.took),
       more.held ∙ ap (λ (b : InboxState). record b { held = box'.held ++ more.piece }) so_far.same ∙ ap (λ (xs : List ℕ). record box { held = xs }) (sym held),
     )
 
@@ -117,7 +118,7 @@ valid_of e bytes f whole = subst (λ (xs : List ℕ). IsWhole e xs f) (sym whole
 
 -- the frame that came whole is the one that is due
 pub heard_of : (known : Known) (e : Expect) (Told : Frame → Type 0) (state state' : EndState) (box box' box'' : InboxState) (old new : Outside) (frame : lent.Frame) (r : Result (Option lent.Frame) BadFrame)
-    → Took known old box'.held new × (box' ≡ record box { held = box'.held }) → r ≡ Ok (Some frame) → Answers box' e r → Leaves box' e r box''
+    → Took known e [] old box'.held new × (box' ≡ record box { held = box'.held }) → r ≡ Ok (Some frame) → Answers box' e r → Leaves box' e r box''
     → state' ≡ after_taking (seen frame) state → Told (seen frame) → Heard known e Told state box old state' box'' new
 heard_of known e Told state state' box box' box'' old new frame r on is answer leaves takes told =
     let whole : IsWhole e box'.held (seen frame) = subst (λ (x : Result (Option lent.Frame) BadFrame). Answers box' e x) is answer in
@@ -125,7 +126,7 @@ heard_of known e Told state state' box box' box'' old new frame r on is answer l
     record {
       frame = seen frame;
       valid = valid_of e box'.held (seen frame) whole;
-      took = subst (λ (xs : List ℕ). Took known old xs new) (sym whole.values) on.0;
+      took = subst (λ (xs : List ℕ). Took known e [] old xs new) (sym whole.values) on.0;
       goes_on = takes;
       lent = left ∙ ap (with_lent e) on.1;
       told = told;

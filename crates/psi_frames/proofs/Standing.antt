@@ -13,16 +13,16 @@ use Rattle.psi_frames.specs.declared.turns.EndFault.{EndFault}
 use Rattle.psi_frames.specs.declared.turns.EndFault.TheVariants as fault
 use Rattle.psi_frames.specs.Boxes.{InboxState, with_lent}
 use Rattle.psi_frames.specs.Converse.{ConversesWith, Heard, Hears, KeepsAll, KeepsFrame, PeerEnded, Refused, SendsAll, Stopped, Took, Unheard, without_front}
-use Rattle.psi_frames.specs.Dialogue.{Dialogue, Talks, WereTaken, bad, good, owed_before, short, talked}
+use Rattle.psi_frames.specs.Dialogue.{AreInTurn, Dialogue, IsRight, Talks, WereTaken, bad, good, owed_before, short, talked}
 use Rattle.psi_frames.specs.Expected.{frame_length}
-use Rattle.psi_frames.specs.Script.{AreAwaited, EndState, IsSettled, IsWithin, Keeps, KeepsOn, Script, awaits, dialogue_of, due_after, due_frame, goes_on, over, owed, reading_from, script_of, sends, wire_for}
+use Rattle.psi_frames.specs.Script.{AreAwaited, EndState, IsSettled, IsWithin, Keeps, KeepsOn, Script, awaits, dialogue_of, due_after, due_frame, goes_on, over, owed, reading_from, script_of, sends, wanted, wanted_of, wire_for}
 use Rattle.psi_frames.proofs.Fed.{take_past}
-use Rattle.psi_frames.proofs.Scripts.{awaited-goes_on, new-goes_on, owed-begun, owed-goes_on, owed-whole, reading-begun, reading-goes_on, reading-whole, reading-wrong, settled-goes_on, wire-goes_on, within-goes_on}
-use Rattle.psi_frames.proofs.Sending.{keeps_on-more, keeps_on-none}
-use Rattle.psi_frames.proofs.Taken.{talked_none, talked_sent, talked_took, were_taken-more, were_taken-none}
+use Rattle.psi_frames.proofs.Scripts.{awaited-goes_on, new-goes_on, owed-begun, owed-goes_on, owed-whole, reading-begun, reading-goes_on, reading-whole, reading-wrong, settled-goes_on, wanted-goes_on, wanted-least, wanted-whole, wire-goes_on, within-goes_on}
+use Rattle.psi_frames.proofs.Sending.{keeps_on-more, keeps_on-none, nothing_wrong}
+use Rattle.psi_frames.proofs.Taken.{in_turn-past, talked_none, talked_sent, talked_took, were_taken-more, were_taken-none}
 
--- the frames that an end took, the bytes that it sent, and what it goes on with: it reads and owes as its whole script
--- does after these frames, so many more are awaited at most, and what it kept went on with these frames and with all that
+-- the frames that an end took, the bytes that it sent, and what it goes on with: it reads, owes and wants as its whole
+-- script does after these frames, so many more are awaited at most, and what it kept went on with these frames and with all that
 -- stands on the wire
 pub record At {X : Type 0} (first keeps : Keeps X) (known : Known) (script : Script) (before : Outside) (done left : ℕ) (state : EndState) (box : InboxState) (now : Outside) : Type 0 where
   pub frames : List Frame
@@ -31,10 +31,12 @@ pub record At {X : Type 0} (first keeps : Keeps X) (known : Known) (script : Scr
   pub bytes : taken ≡ flat_map layout frames
   pub reads : (more : List ℕ) → reading_from script [] (taken ++ more) ≡ reading_from state.next taken more
   pub owes : (more : List ℕ) → owed script (taken ++ more) ≡ gone ++ (state.owes ++ owed state.next more)
+  pub wants : (more : List ℕ) → wanted script (taken ++ more) ≡ wanted state.next more
   pub due : (rest : List Frame) → AreAwaited state.next rest → AreAwaited script (frames ++ rest)
   pub settled : IsSettled state.next
   pub least : length (owed_before (dialogue_of script) taken) ≤ length gone
   pub were_taken : WereTaken known before.incoming taken
+  pub in_turn : AreInTurn (wanted script) [] were_taken.pieces
   pub now_is : now ≡ talked before gone taken
   pub box_is : box ≡ record { room = inbox_room; held = []; offset = length taken; refused = None }
   pub fresh : IsTrue state.is_new → taken ≡ []
@@ -55,10 +57,12 @@ at_start keeps known before left state box settled few empty = record {
   bytes = refl;
   reads = λ more. refl;
   owes = λ more. refl;
+  wants = λ more. refl;
   due = λ rest h. h;
   settled = settled;
   least = omega arith;
-  were_taken = were_taken-none known before.incoming;
+  were_taken = (were_taken-none known before.incoming (wanted (script_of state)) []).0;
+  in_turn = (were_taken-none known before.incoming (wanted (script_of state)) []).1;
   now_is = sym (talked_none before);
   box_is = empty;
   fresh = λ new. refl;
@@ -80,10 +84,12 @@ at_sent first keeps keeps' known script before done left state state' box now ne
       bytes = h.bytes;
       reads = h.reads;
       owes = λ more. h.owes more ∙ sym (append_assoc h.gone state.owes (owed state.next more));
+      wants = h.wants;
       due = h.due;
       settled = h.settled;
       least = omega (arith, h.least, length-append h.gone state.owes);
       were_taken = h.were_taken;
+      in_turn = h.in_turn;
       now_is = all_sent ∙ ap (λ (o : Outside). sent_too o state.owes) h.now_is ∙ talked_sent before h.gone h.taken state.owes;
       box_is = h.box_is;
       fresh = h.fresh;
@@ -101,6 +107,22 @@ settled_owes : (script : Script) → IsSettled script → owed script [] ≡ []
 settled_owes over settled = refl
 settled_owes (sends out rest) settled = absurd settled
 settled_owes (awaits e next) settled = owed-begun e next [] (omega arith)
+
+-- at a settled end no field is wrong yet
+settled_right : (script : Script) (taken : List ℕ) → IsSettled script → IsRight (reading_from script taken [])
+settled_right over taken settled = tt
+settled_right (sends out rest) taken settled = absurd settled
+settled_right (awaits e next) taken settled = subst IsRight (sym (reading-begun e next taken [] (record { short = omega arith; right = nothing_wrong e }))) tt
+
+-- nor at an end that took none
+new_right : (script : Script) (taken : List ℕ) → IsRight (reading_from script taken [])
+new_right script taken =
+    subst IsRight (reading-goes_on true script taken []) (settled_right (goes_on true script).next taken (settled-goes_on true script))
+
+-- so none is where bytes read as those that a settled end took
+right_here : (script rest : Script) (taken : List ℕ) → IsSettled rest → reading_from script [] (taken ++ []) ≡ reading_from rest taken [] → IsRight (reading_from script [] taken)
+right_here script rest taken settled reads =
+    subst IsRight (sym (ap (reading_from script []) (sym (append-nil taken)) ∙ reads)) (settled_right rest taken settled)
 
 -- what was owed once these frames were taken
 owed_here : {X : Type 0} (first keeps : Keeps X) (known : Known) (script : Script) (before : Outside) (done left : ℕ) (state : EndState) (box : InboxState) (now : Outside) (h : At first keeps known script before done left state box now)
@@ -131,6 +153,8 @@ at_unsent first keeps known script before done left state box now new fault.Link
       taken = h.taken;
       sent = length h.gone + part.0;
       were_taken = h.were_taken;
+      in_turn = h.in_turn;
+      right = right_here script state.next h.taken h.settled (h.reads []);
       least = omega (arith, h.least);
       most = omega (arith, long, most, part.1);
       why = subst (λ (o : Outside). LinkFailed o new) (sent_part first keeps known script before done left state box now part.0 h) part.2;
@@ -142,6 +166,8 @@ at_unsent first keeps known script before done left state box now new fault.NoMe
       taken = h.taken;
       sent = length h.gone + part.0;
       were_taken = h.were_taken;
+      in_turn = h.in_turn;
+      right = right_here script state.next h.taken h.settled (h.reads []);
       least = omega (arith, h.least);
       most = omega (arith, long, most, part.1);
       why = inl (subst (λ (o : Outside). Starved o new) (sent_part first keeps known script before done left state box now part.0 h) part.2);
@@ -242,11 +268,17 @@ module _ {X : Type 0} (first keeps : Keeps X) (known : Known) (script : Script) 
   least_by [] within = subst (λ (xs : List ℕ). length (owed_before (dialogue_of script) xs) ≤ length h.gone) (sym (append-nil h.taken)) h.least
   least_by (x ∷ part) within = let same = ap length (owed_last (x ∷ part) (omega arith) within) in omega (arith, same)
 
-  came : (part : List ℕ) (mid : Outside) → Took known now part mid → WereTaken known before.incoming (h.taken ++ part)
-  came part mid took =
-      were_taken-more known before.incoming h.taken part h.were_taken (subst (λ (o : Outside). WereTaken known o.incoming part) h.now_is took.were_taken)
+  -- no less is wanted than of the frame that is due
+  wanted_more : (part : List ℕ) → wanted_of e part ≤ wanted script (h.taken ++ part)
+  wanted_more part = let least = wanted-least e next part in let same = h.wants part in omega (arith, least, same)
 
-  mid_is : (part : List ℕ) (mid : Outside) → Took known now part mid → mid ≡ talked before h.gone (h.taken ++ part)
+  came : (part : List ℕ) (mid : Outside) → Took known e [] now part mid → (all : WereTaken known before.incoming (h.taken ++ part)) × AreInTurn (wanted script) [] all.pieces
+  came part mid took =
+      let more : Took known e [] (talked before h.gone h.taken) part mid = subst (λ (o : Outside). Took known e [] o part mid) h.now_is took in
+      were_taken-more known before.incoming (wanted script) [] h.taken part h.were_taken more.were_taken h.in_turn
+      (subst (λ (xs : List ℕ). AreInTurn (wanted script) xs more.were_taken.pieces) (append-nil h.taken) (in_turn-past (wanted_of e) (wanted script) h.taken [] more.were_taken.pieces wanted_more more.in_turn))
+
+  mid_is : (part : List ℕ) (mid : Outside) → Took known e [] now part mid → mid ≡ talked before h.gone (h.taken ++ part)
   mid_is part mid took = took.left ∙ ap (λ (o : Outside). without_front o part) h.now_is ∙ talked_took before h.gone h.taken part
 
   -- the place of the frame that is due
@@ -266,10 +298,12 @@ module _ {X : Type 0} (first keeps : Keeps X) (known : Known) (script : Script) 
       ap (reading_from script []) (append_assoc h.taken r.bytes more) ∙ h.reads (r.bytes ++ more)
       ∙ reading-wrong e next h.taken r.bytes more frame.reason r.within r.first
       ∙ ap (λ (n : ℕ). bad (record { offset = n; reason = frame.reason })) (place_is frame.offset r.place) in
-      let were_taken = came r.bytes after r.took in
+      let all = came r.bytes after r.took in
+      let were_taken = all.0 in
       record {
         taken = taken;
         were_taken = were_taken;
+        in_turn = all.1;
         reads = record {
           taken_so_far = ap (reading_from script []) (sym (append-nil taken)) ∙ reads [];
           all = on_front before.incoming taken (λ bytes. reading_from script [] bytes ≡ bad frame) were_taken.next reads;
@@ -285,10 +319,12 @@ module _ {X : Type 0} (first keeps : Keeps X) (known : Known) (script : Script) 
       let mid = mid_is s.bytes s.mid s.took in
       let reads : reading_from script [] taken ≡ short offset =
       h.reads s.bytes ∙ reading-begun e next h.taken s.bytes s.begun ∙ ap (λ (n : ℕ). short n) (place_is offset at) in
-      let were_taken = came s.bytes s.mid s.took in
+      let all = came s.bytes s.mid s.took in
+      let were_taken = all.0 in
       record {
         taken = taken;
         were_taken = were_taken;
+        in_turn = all.1;
         reads = record {
           taken_so_far = reads;
           all =
@@ -310,7 +346,9 @@ module _ {X : Type 0} (first keeps : Keeps X) (known : Known) (script : Script) 
       record {
         taken = taken;
         sent = length h.gone;
-        were_taken = came s.bytes s.mid s.took;
+        were_taken = (came s.bytes s.mid s.took).0;
+        in_turn = (came s.bytes s.mid s.took).1;
+        right = subst IsRight (sym (h.reads s.bytes ∙ reading-begun e next h.taken s.bytes s.begun)) tt;
         least = least_by s.bytes (omega (arith, s.begun.short));
         most = omega (arith, ap length owes);
         why =
@@ -330,7 +368,12 @@ module _ {X : Type 0} (first keeps : Keeps X) (known : Known) (script : Script) 
       record {
         taken = taken;
         sent = length h.gone;
-        were_taken = came part after u.took;
+        were_taken = (came part after u.took).0;
+        in_turn = (came part after u.took).1;
+        right =
+            right_here script (goes_on false (next u.frame)).next taken (settled-goes_on false (next u.frame))
+            (ap (reading_from script []) (append_assoc h.taken part []) ∙ h.reads (part ++ [])
+            ∙ reading-whole e next h.taken u.frame [] u.valid ∙ sym (reading-goes_on false (next u.frame) taken []));
         least = least_by part (omega (arith, u.valid.long));
         most = omega (arith, ap length owes, length-append h.gone (owed (awaits e next) part));
         why = inr (omega (arith, ap length none), mid_is part after u.took ∙ ap (λ (xs : List ℕ). talked before xs taken) (sym sent));
@@ -366,12 +409,16 @@ module _ {X : Type 0} (first keeps : Keeps X) (known : Known) (script : Script) 
         owes = λ more.
             ap (owed script) (append_assoc h.taken part more) ∙ h.owes (part ++ more)
             ∙ ap (λ (xs : List ℕ). h.gone ++ xs) (owed-whole e next f more d.valid ∙ sym (owed-goes_on false rest more));
+        wants = λ more.
+            ap (wanted script) (append_assoc h.taken part more) ∙ h.wants (part ++ more)
+            ∙ wanted-whole e next f more d.valid ∙ sym (wanted-goes_on false rest more);
         due = λ frames awaited.
             subst (AreAwaited script) (sym (append_assoc h.frames (f ∷ []) frames))
             (h.due (f ∷ frames) (d.valid, subst (λ (T : Type 0). T) (awaited-goes_on false rest frames) awaited));
         settled = settled-goes_on false rest;
         least = least_by part (omega (arith, d.valid.long));
-        were_taken = came part after d.took;
+        were_taken = (came part after d.took).0;
+        in_turn = (came part after d.took).1;
         now_is = mid_is part after d.took;
         box_is =
             d.lent ∙ ap (with_lent e) h.box_is
@@ -393,7 +440,9 @@ pub not_begun : (known : Known) (script : Script) (before : Outside) → Talks k
 not_begun known script before = record {
   taken = [];
   sent = 0;
-  were_taken = were_taken-none known before.incoming;
+  were_taken = (were_taken-none known before.incoming (wanted script) []).0;
+  in_turn = (were_taken-none known before.incoming (wanted script) []).1;
+  right = new_right script [];
   least = omega arith;
   most = omega arith;
   why = inr (omega arith, sym (talked_none before));

@@ -10,8 +10,8 @@ use Rattle.psi_frames.specs.declared.turns.EndFault.{EndFault}
 use Rattle.psi_frames.specs.declared.turns.EndFault.TheVariants as fault
 use Rattle.psi_frames.specs.Expected.{IsBegun, IsValid, frame_length, wrong}
 use Rattle.psi_frames.specs.Boxes.{InboxState, with_lent}
-use Rattle.psi_frames.specs.Dialogue.{Talks, WereTaken}
-use Rattle.psi_frames.specs.Script.{EndState, IsRead, Keeps, KeepsOn, Script, after_taking, dialogue_of, wire_for}
+use Rattle.psi_frames.specs.Dialogue.{AreInTurn, Talks, WereTaken}
+use Rattle.psi_frames.specs.Script.{EndState, IsRead, Keeps, KeepsOn, Script, after_taking, dialogue_of, wanted_of, wire_for}
 
 -- why a session ends where a send is refused
 abbrev pub send_fault : Fault → EndFault
@@ -29,9 +29,12 @@ SendsAll old bytes (Err _) new = ⊥
 abbrev pub without_front : Outside → List ℕ → Outside
 without_front old bytes = record old { incoming = option_map (λ all. drop (length bytes) all) old.incoming }
 
--- these bytes were taken from the link, and nothing else changed
-pub record Took (known : Known) (old : Outside) (bytes : List ℕ) (new : Outside) : Type 0 where
+-- these bytes were taken from the link, behind those that came of the frame that is due, each receive no more of them
+-- than were then wanted, and nothing else changed
+pub record Took (known : Known) (e : Expect) (held : List ℕ) (old : Outside) (bytes : List ℕ) (new : Outside)
+    : Type 0 where
   pub were_taken : WereTaken known old.incoming bytes
+  pub in_turn : AreInTurn (wanted_of e) held were_taken.pieces
   pub left : new ≡ without_front old bytes
 
 -- the peer sent no more bytes, which was counted
@@ -46,7 +49,7 @@ pub record Came (known : Known) (e : Expect) (box : InboxState) (old : Outside) 
   pub piece : List ℕ
   pub some : 0 < length piece
   pub within : length (box.held ++ piece) ≤ frame_length e
-  pub took : Took known old piece new
+  pub took : Took known e box.held old piece new
   pub held : box' ≡ record box { held = box.held ++ piece }
 
 -- what one receive for the frame that is due may answer and leave
@@ -61,7 +64,7 @@ pub record Heard (known : Known) (e : Expect) (Told : Frame → Type 0) (state :
     (old : Outside) (state' : EndState) (box' : InboxState) (new : Outside) : Type 0 where
   pub frame : Frame
   pub valid : IsValid e frame
-  pub took : Took known old (layout frame) new
+  pub took : Took known e [] old (layout frame) new
   pub goes_on : state' ≡ after_taking frame state
   pub lent : box' ≡ with_lent e box
   pub told : Told frame
@@ -73,21 +76,21 @@ pub record Refused (known : Known) (e : Expect) (box : InboxState) (old : Outsid
   pub within : length bytes ≤ frame_length e
   pub first : wrong e bytes ≡ Some frame.reason
   pub place : frame.offset ≡ box.offset
-  pub took : Took known old bytes new
+  pub took : Took known e [] old bytes new
 
 -- the bytes that came only begin the frame, and then no more came for this cause
 pub record Stopped (known : Known) (e : Expect) (old : Outside) (cause : Outside → Type 0) : Type 0 where
   pub bytes : List ℕ
   pub mid : Outside
   pub begun : IsBegun e bytes
-  pub took : Took known old bytes mid
+  pub took : Took known e [] old bytes mid
   pub why : cause mid
 
 -- the frame that is due came, but the end, which had taken none, had no memory for it
 pub record Unheard (known : Known) (e : Expect) (state : EndState) (old new : Outside) : Type 0 where
   pub frame : Frame
   pub valid : IsValid e frame
-  pub took : Took known old (layout frame) new
+  pub took : Took known e [] old (layout frame) new
   pub early : IsTrue state.is_new
 
 -- what the wait for the frame that is due may answer and leave, where this is told of a frame that was taken

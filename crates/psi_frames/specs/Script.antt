@@ -43,9 +43,21 @@ owed over bytes = []
 owed (sends out rest) bytes = out ++ owed rest bytes
 owed (awaits e next) bytes = by_front e bytes (λ why. []) [] (λ frame. owed (next frame) (drop (frame_length e) bytes))
 
+-- how many bytes of the frame that is due are wanted once these of it came: none behind a wrong field
+abbrev pub wanted_of : Expect → List ℕ → ℕ
+wanted_of e bytes = by_front e bytes (λ why. 0) (frame_length e - length bytes) (λ frame. 0)
+
+-- how many bytes are wanted once these bytes of the peer were taken: those of the frame that is due
+abbrev pub wanted : Script → List ℕ → ℕ
+wanted over bytes = 0
+wanted (sends out rest) bytes = wanted rest bytes
+wanted (awaits e next) bytes =
+    by_front e bytes (λ why. 0) (frame_length e - length bytes)
+    (λ frame. wanted (next frame) (drop (frame_length e) bytes))
+
 -- an end with this script, as a dialogue
 abbrev pub dialogue_of : Script → Dialogue
-dialogue_of script = record { reads_as = reading_from script []; owes = owed script }
+dialogue_of script = record { reads_as = reading_from script []; owes = owed script; wants = wanted script }
 
 -- all that is to be sent once these frames of the peer were taken
 abbrev pub owed_for : Script → List Frame → List ℕ

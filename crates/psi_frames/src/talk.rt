@@ -2,6 +2,7 @@
 ghost use Rattle.std.specs.Prelude.{◌≡◌, ◌<◌, [], length, None, Some, OnOk, IsTrue};
 ghost use Rattle.psi_frames.specs.Boxes.{MayExpect, missing_of};
 ghost use Rattle.psi_frames.specs.Converse.{ConversesWith, Fills, Hears, KeepsAll, KeepsFrame, SendsAll};
+ghost use Rattle.psi_frames.specs.Expected.{IsBegun};
 ghost use Rattle.psi_frames.specs.Script.{IsSettled, IsWithin, KeepsOn, due_frame, over, script_of};
 
 use crate::end::End;
@@ -38,6 +39,7 @@ fn receive<W: World>(
     requires ready { IsTrue (W.outside world.old).ready }
     requires due { MayExpect inbox.old expect.now }
     requires some { 0 < missing_of inbox.old expect.now }
+    requires begun { IsBegun expect.now inbox.old.held }
     requires room { 0 < length buffer.old }
     ensures fills { Fills W.known expect.now inbox.old (W.outside world.old) result inbox.new (W.outside world.new) }
     ensures due { OnOk result (MayExpect inbox.new expect.now) }

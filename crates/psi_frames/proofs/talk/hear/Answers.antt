@@ -1,4 +1,4 @@
-use Rattle.std.proofs.Common.{Err, Ok, IsTrue, List, ℕ, Option, ap, refl, subst, sym, ◌∙◌}
+use Rattle.std.proofs.Common.{Err, Ok, IsTrue, List, [], ℕ, Option, ap, refl, subst, sym, ◌∙◌}
 use Rattle.std.specs.declared.result.Result.{Result}
 use Rattle.std.proofs.lemmas.Result.{err_from_is_err_and}
 use Rattle.psi_frames.specs.declared.expect.Expect.{Expect}
@@ -57,7 +57,7 @@ returns-in_err-take g c =
     (record {
       frame = seen c.in-Some.frame;
       valid = valid_of e c.receive.new.inbox.held (seen c.in-Some.frame) whole;
-      took = subst (λ (xs : List ℕ). Took known (outside c.args.world.now) xs (outside c.receive.new.world)) (sym whole.values) on.0;
+      took = subst (λ (xs : List ℕ). Took known e [] (outside c.args.world.now) xs (outside c.receive.new.world)) (sym whole.values) on.0;
       early = subst (λ (s : EndState). IsTrue s.is_new) (ap g.E.End.state c.loop-inbox.invariant.same) c.in_err-take.ensures.early;
     })
 

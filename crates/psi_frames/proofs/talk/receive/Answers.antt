@@ -8,4 +8,4 @@ returns-clause-fills g c =
     let room = c.min-room.result in
     let buffer = c.args.buffer.now in
     came_of g.W.World.known c.args.expect.now c.args.inbox.now c.feed.new.self (outside c.args.world.now) (outside c.recv.new.self) c.recv.new.buf (drop room buffer)
-    c.in_ok-count.count c.in_ok-count.ensures (omega arith) c.requires.due (omega (arith, c.recv.auto.buf, c.min-room.ensures, c.missing.ensures.exact, length-take room buffer)) c.feed.ensures.fed c.feed.ensures.are_bytes
+    c.in_ok-count.count c.in_ok-count.ensures (omega arith) c.requires.due c.requires.begun (omega (arith, c.recv.auto.buf, c.min-room.ensures, c.missing.ensures.exact, length-take room buffer)) c.feed.ensures.fed c.feed.ensures.are_bytes
