@@ -1,5 +1,5 @@
 -- What a session keeps, phase by phase.
-use Rattle.std.proofs.Common.{◌≡◌, ◌+◌, ◌-◌, ◌<◌, ◌≤◌, ◌==◌, ◌∙◌, ℕ, Bool, true, false, cond, nat_lt, nat_cmp, IsSorted, List, [], ◌∷◌, ◌++◌, length, map, take, replicate, Some, refl, sym, ap, subst, arith}
+use Rattle.std.proofs.Common.{◌≡◌, ◌+◌, ◌-◌, ◌<◌, ◌≤◌, ◌==◌, ◌∙◌, ℕ, suc, zero, Bool, true, false, cond, nat_lt, nat_cmp, IsSorted, List, [], ◌∷◌, ◌++◌, length, map, take, drop, replicate, Some, refl, sym, ap, subst, arith}
 use Rattle.std.specs.Cmp.Lexicographic.{slice_cmp}
 use Rattle.std.specs.List.{slice_get}
 use Rattle.std.proofs.lemmas.Bool.{ltb-true}
@@ -26,14 +26,14 @@ use Rattle.psi_receiver.specs.declared.own.OwnTags.{OwnTags}
 use Rattle.psi_receiver.specs.declared.phase.Merge.{Merge}
 use Rattle.psi_receiver.specs.declared.phase.Phase.{Phase}
 use Rattle.psi_receiver.specs.declared.phase.Phase.TheVariants as phase
-use Rattle.psi_receiver.specs.Own.{AreCarriable, AreCarried, AreOwnTags, AreShownBy, IsMarkedList, IsMerging, Marked, marked_of, marks_of, own_tag_of, own_tags_in, slots_in}
+use Rattle.psi_receiver.specs.Own.{AreCarriable, AreCarried, AreOwnTags, AreShownBy, AreUnmarked, AreUnshown, IsMarkedList, IsMerging, Marked, marked_of, marks_of, own_tag_of, own_tags_in, slots_in}
 use Rattle.psi_receiver.specs.Phases.{first_of, next_phase, phase_after_column}
-use Rattle.psi_receiver.specs.Running.{HasFound, IsAwaiting, IsMemory, IsMergeable, IsSession, Stands, next_of, rest_in, running, stage_in, state_of}
+use Rattle.psi_receiver.specs.Running.{HasFound, IsAwaiting, IsMemory, IsMergeable, IsSession, ShowsIn, Stands, TellsShown, answers, next_of, rest_in, running, stage_in, state_of}
 use Rattle.psi_receiver.specs.Script.{no_floor}
 use Rattle.psi_receiver.proofs.Going.{block_due, some_columns, some_end}
 use Rattle.psi_receiver.proofs.Hearing.{width_of}
 use Rattle.psi_receiver.proofs.Marks.{merging_starts}
-use Rattle.psi_receiver.proofs.Shown.{own_marks_are_carriable, shown_by_carried, slots_have_lists}
+use Rattle.psi_receiver.proofs.Shown.{no_marks_carried, own_marks_are_carriable, shown_by_carried, slots_have_lists}
 
 -- ---- slots
 
@@ -116,10 +116,54 @@ module _ (deal : ReceiverDeal) (slots : List Slot) where
           first_is_awaited memory.own (m.list + 1) m.count are few width (ltb-true (m.list + 1) (3 + deal.stash) d) (omega (arith, block)) most
       by_case false false e d = tt
 
+-- of no bytes none are left
+pub drop_none : (n : ℕ) → drop {A = ℕ} n [] ≡ []
+drop_none zero = refl
+drop_none (suc n) = refl
+
+-- a script that awaits a frame is not over
+pub never_over : {e : Expect} {script : Frame → Script} → awaits e script ≡ over → ⊥
+never_over e = cc
+
 -- ---- memory and sessions
 
-no_bytes : (a b : List ℕ) → 0 < length b → a ++ b ≡ [] → ⊥
+pub no_bytes : (a b : List ℕ) → 0 < length b → a ++ b ≡ [] → ⊥
 no_bytes a b some none = let all = ap length none in omega (arith, some, all, length-append a b)
+
+module _ (deal : ReceiverDeal) (slots : List Slot) where
+  -- where no own tag is marked and no item is shown, the items are shown by their marks
+  unshown_by_marks : (memory : Memory) → AreOwnTags deal slots memory.own → AreUnmarked (marks_of memory.own) → AreUnshown memory.shown.items
+      → AreShownBy deal slots (marks_of memory.own) memory.shown.items
+  unshown_by_marks memory are none early =
+      shown_by_carried deal slots memory.own are memory.shown.items (no_marks_carried memory.own.lists.items memory.shown.items none early)
+
+  -- what is shown after a column
+  shows_after_column : (memory : Memory) (next count : ℕ) → AreOwnTags deal slots memory.own → AreUnmarked (marks_of memory.own) → AreUnshown memory.shown.items
+      → ShowsIn deal slots memory (phase_after_column next count)
+  shows_after_column memory next count are none early = by_case (nat_lt next 511) (nat_lt 0 count)
+    where
+      by_case : (b c : Bool) → ShowsIn deal slots memory (cond b (phase.Columns (next + 1) count) (cond c (phase.Tags (first_of 0 count)) phase.Done))
+      by_case true c = (none, early)
+      by_case false true = early
+      by_case false false = λ some. unshown_by_marks memory are none early
+
+  -- what is shown after a block, with which nothing is pending
+  shows_after_block : (memory : Memory) (lists : ℕ) (m : Merge) (last : List ℕ) (place : ℕ) → memory.outbox.pending ≡ [] → AreUnshown memory.shown.items
+      → ShowsIn deal slots memory (next_phase lists m last place)
+  shows_after_block memory lists m last place empty early = by_case (nat_lt (m.block + 1) (blocks_for m.count)) (nat_lt (m.list + 1) lists)
+    where
+      by_case : (b c : Bool) → ShowsIn deal slots memory (cond b (phase.Tags (record m { block = m.block + 1; floor = last; from = place })) (cond c (phase.Tags (first_of (m.list + 1) m.count)) phase.Done))
+      by_case true c = early
+      by_case false true = early
+      by_case false false = λ some. absurd (some empty)
+
+  -- what is shown stays while bytes are sent
+  pub shows_while_sent : (memory : Memory) (p : Phase) (box : OutboxState) → ((memory.outbox.pending ≡ []) → box.pending ≡ []) → ShowsIn deal slots memory p → ShowsIn deal slots (record memory { outbox = box }) p
+  shows_while_sent memory phase.Hello box less shows = shows
+  shows_while_sent memory (phase.Columns next count) box less shows = shows
+  shows_while_sent memory (phase.Tags m) box less shows = shows
+  shows_while_sent memory phase.Done box less shows = λ some. shows (λ none. some (less none))
+  shows_while_sent memory phase.Over box less shows = shows
 
 module _ (deal : ReceiverDeal) (items : List (List ℕ)) (slots : List Slot) where
   -- memory in which a frame was put
@@ -155,6 +199,8 @@ module _ (deal : ReceiverDeal) (items : List (List ℕ)) (slots : List Slot) whe
         (holds_with_frame memory memory'.outbox (layout (column_frame next column)) is.holds box (omega arith));
     stands = stands_after_column deal slots memory' next count (subst (AreOwnTags deal slots) (sym (ap (λ (m : Memory). m.own) same)) is.holds.own)
         (few_slots memory (phase.Columns next count) is) (few_bytes memory (phase.Columns next count) is) is.stands.0 is.stands.1;
+    shows = subst (λ (m : Memory). ShowsIn deal slots m (phase_after_column next count)) (sym same)
+        (shows_after_column deal slots (record memory { outbox = memory'.outbox }) next count is.holds.own is.shows.0 is.shows.1);
   }
 
   -- its marks can be carried to its items
@@ -187,7 +233,8 @@ module _ (deal : ReceiverDeal) (items : List (List ℕ)) (slots : List Slot) whe
               column_room = with_frame.column_room;
               spare = with_frame.spare;
             });
-        stands = subst (λ (o : OwnTags). AreShownBy deal slots (marks_of o) memory'.shown.items) (sym own)
+        stands = tt;
+        shows = subst (λ (o : OwnTags). AreShownBy deal slots (marks_of o) memory'.shown.items) (sym own)
             (shown_by_carried deal slots memory.own is.holds.own memory'.shown.items carried);
       }
 
@@ -195,37 +242,44 @@ module _ (deal : ReceiverDeal) (items : List (List ℕ)) (slots : List Slot) whe
   none_behind [] b e = e
   none_behind (x ∷ a) b e = cc
 
-  -- all is done where nothing is owed or awaited
-  over_by_state : (memory : Memory) (p : Phase) → IsSession deal items slots memory p → memory.outbox.pending ++ rest_in memory.sent.columns p ≡ []
-      → next_of deal (placed_of items slots) (stage_in p) ≡ over → p ≡ phase.Over
-  over_by_state memory phase.Hello is owes next = cc
-  over_by_state memory (phase.Columns n count) is owes next =
-      let full = is.holds.columns.columns.count in
-      let few = is.stands.0 in
-      absurd (some_columns n count memory.sent.columns (omega (arith, full, few)) (none_behind memory.outbox.pending (rest_in memory.sent.columns (phase.Columns n count)) owes))
-  over_by_state memory (phase.Tags m) is owes next =
-      absurd (awaits_on (sym (block_due deal (placed_of items slots) m.list m.block m.count m.floor is.stands.blocks) ∙ next))
-    where
-      awaits_on : {e : Expect} {script : Frame → Script} → awaits e script ≡ over → ⊥
-      awaits_on e = cc
-  over_by_state memory phase.Done is owes next = absurd (some_end (none_behind memory.outbox.pending (layout done_frame) owes))
-  over_by_state memory phase.Over is owes next = refl
+  -- once no frame is awaited, the items are shown by their marks
+  shown_by_state : (memory : Memory) (p : Phase) → IsSession deal items slots memory p → (memory.outbox.pending ≡ [] → rest_in memory.sent.columns p ≡ [])
+      → next_of deal (placed_of items slots) (stage_in p) ≡ over → AreShownBy deal slots (marks_of memory.own) memory.shown.items
+  shown_by_state memory phase.Hello is ready next = absurd (never_over next)
+  shown_by_state memory (phase.Columns n count) is ready next = unshown_by_marks deal slots memory is.holds.own is.shows.0 is.shows.1
+  shown_by_state memory (phase.Tags m) is ready next =
+      absurd (never_over (sym (block_due deal (placed_of items slots) m.list m.block m.count m.floor is.stands.blocks) ∙ next))
+  shown_by_state memory phase.Done is ready next = is.shows (λ none. some_end (ready none))
+  shown_by_state memory phase.Over is ready next = is.shows
 
-  -- once all is done, the items are shown
-  pub session_has_found : (memory : Memory) (p : Phase) → IsSession deal items slots memory p → (state_of (running deal items slots memory p)).owes ≡ []
-      → (state_of (running deal items slots memory p)).next ≡ over → HasFound (running deal items slots memory p)
-  session_has_found memory p is owes next =
+  -- and before none is
+  unshown_by_state : (memory : Memory) (p : Phase) → IsSession deal items slots memory p → (next_of deal (placed_of items slots) (stage_in p) ≡ over → ⊥) → AreUnshown memory.shown.items
+  unshown_by_state memory phase.Hello is more = is.shows.1
+  unshown_by_state memory (phase.Columns n count) is more = is.shows.1
+  unshown_by_state memory (phase.Tags m) is more = is.shows
+  unshown_by_state memory phase.Done is more = absurd (more refl)
+  unshown_by_state memory phase.Over is more = absurd (more refl)
+
+  -- at all times a session tells which items are shown
+  pub session_tells : (memory : Memory) (p : Phase) → IsSession deal items slots memory p → (memory.outbox.pending ≡ [] → rest_in memory.sent.columns p ≡ []) → TellsShown (running deal items slots memory p)
+  session_tells memory p is ready =
       let many = as_many_slots deal.stash (bins_for (length items)) deal.key items slots is.placed in
       let same : slots ≡ map (λ q. q.slot) (placed_of items slots) = sym (slots_of-placed_of items slots (sym many)) in
-      let shown = subst (Stands deal slots memory) (over_by_state memory p is owes next) is.stands in
+      let long = is.holds.shown ∙ sym (length-placed_of items slots (sym many)) in
       record {
-        many = length-map memory.own.lists.items marked_of ∙ is.holds.own.many;
-        each = subst (λ (ss : List Slot). (list : ℕ) (m : Marked) → slice_get (marks_of memory.own) list ≡ Some m → IsMarkedList (own_tags_in deal ss list) m) same is.holds.own.each;
-        places = λ i slot at.
-            subst (λ (n : ℕ). list_of_slot (bins_for n) slot < 3 + deal.stash) (sym (length-placed_of items slots (sym many)))
-            (slots_have_lists deal.stash (bins_for (length items)) deal.key items slots is.placed.each i slot (subst (λ (ss : List Slot). slice_get ss i ≡ Some slot) (sym same) at));
-        long = is.holds.shown ∙ sym (length-placed_of items slots (sym many));
-        found = subst (λ (ss : List Slot). AreShownBy deal ss (marks_of memory.own) memory.shown.items) same shown;
+        each = long;
+        early = unshown_by_state memory p is;
+        found = λ next.
+            let shown = shown_by_state memory p is ready next in
+            record {
+              many = length-map memory.own.lists.items marked_of ∙ is.holds.own.many;
+              each = subst (λ (ss : List Slot). (list : ℕ) (m : Marked) → slice_get (marks_of memory.own) list ≡ Some m → IsMarkedList (own_tags_in deal ss list) m) same is.holds.own.each;
+              places = λ i slot at.
+                  subst (λ (n : ℕ). list_of_slot (bins_for n) slot < 3 + deal.stash) (sym (length-placed_of items slots (sym many)))
+                  (slots_have_lists deal.stash (bins_for (length items)) deal.key items slots is.placed.each i slot (subst (λ (ss : List Slot). slice_get ss i ≡ Some slot) (sym same) at));
+              long = long;
+              found = subst (λ (ss : List Slot). AreShownBy deal ss (marks_of memory.own) memory.shown.items) same shown;
+            };
       }
 
   -- a session that took the sender's hello
@@ -237,15 +291,16 @@ module _ (deal : ReceiverDeal) (items : List (List ℕ)) (slots : List Slot) whe
     placed = is.placed;
     holds = is.holds;
     stands = (omega arith, few);
+    shows = is.shows;
   }
 
   -- a session that took a block
   pub session_after_block : (memory : Memory) (own : OwnTags) (m : Merge) (tag last : List ℕ) (place : ℕ) (p : Phase) → IsSession deal items slots memory (phase.Tags m)
       → AreOwnTags deal slots own → length tag ≡ deal.tag_length → last ≡ padded deal.tag_length tag
-      → p ≡ next_phase (3 + deal.stash) m last place
+      → p ≡ next_phase (3 + deal.stash) m last place → memory.outbox.pending ≡ []
       → ((n : Marked) → slice_get (marks_of own) m.list ≡ Some n → IsMerging last place n)
       → IsSession deal items slots (record memory { own = own }) p
-  session_after_block memory own m tag last place p is are long tag_is phase_is merging = record {
+  session_after_block memory own m tag last place p is are long tag_is phase_is empty merging = record {
     few = is.few;
     dealt = is.dealt;
     placed = is.placed;
@@ -262,4 +317,6 @@ module _ (deal : ReceiverDeal) (items : List (List ℕ)) (slots : List Slot) whe
         (stands_after_block deal slots (record memory { own = own }) m tag place are (few_slots memory (phase.Tags m) is) (few_bytes memory (phase.Tags m) is)
         is.stands.blocks is.stands.lists is.stands.few long
         (λ n at. subst (λ (x : List ℕ). IsMerging x place n) tag_is (merging n at)));
+    shows = subst (ShowsIn deal slots (record memory { own = own })) (sym phase_is)
+        (shows_after_block deal slots (record memory { own = own }) (3 + deal.stash) m last place empty is.shows);
   }

@@ -3,6 +3,8 @@ pub mod RowCodes
 pub mod Merging
 pub mod Awaited
 pub mod Hearing
+pub mod Fronts
+mod Honest
 pub mod Marks
 pub mod Shown
 pub mod Unmarking

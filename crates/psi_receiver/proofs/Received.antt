@@ -21,6 +21,7 @@ use Rattle.psi_receiver.specs.Running.{IsNewReceiver, KeptSince, ReceiverState, 
 use Rattle.psi_receiver.specs.Script.{receiver_script}
 use Rattle.psi_receiver.proofs.Hearing.{AreStream, stream_frames, were_stream, wired_whole}
 use Rattle.psi_receiver.proofs.Hits.{shown_are_hits}
+use Rattle.psi_receiver.proofs.Holding.{never_over}
 
 -- an end that took nothing yet is one with the receiver's script
 pub new_script : (s : ReceiverState) → IsNewReceiver s → script_of (state_of s) ≡ receiver_script s.deal s.placed
@@ -35,7 +36,8 @@ kept_new s new = record {
   deal = refl;
   placed = refl;
   marks = λ list m at i l. new.marks list m at i;
-  found = λ none done. absurd (let some : layout (receiver_hello s.deal.id s.deal.session (length s.placed)) ++ [] ≡ [] = ap₂ (λ (pending rest : List ℕ). pending ++ rest) (sym new.pending) (sym new.rest) ∙ none in cc);
+  found = λ done. absurd (never_over (sym (ap (next_of s.deal s.placed) new.stage) ∙ done));
+  shown = λ done. absurd (never_over (sym (ap (next_of s.deal s.placed) new.stage) ∙ done));
 }
 
 -- what is kept once all was taken
@@ -49,7 +51,7 @@ received known old new before after taken frames is talks read kept none done =
     let core : KeptSince old.core new.core frames = kept.core in
     let bytes : AreBytes (flat_map layout frames) = subst AreBytes read.bytes talks.0.are_bytes in
     let found : AreStream deal frames = were_stream deal placed frames is bytes read.due in
-    let shown = core.found none done in
+    let shown = core.found done in
     let hits : new.core.shown ≡ hits_of new.core.deal new.core.placed found.lists =
     shown_are_hits new.core.deal new.core.placed found.count found.lists new.core.lists new.core.shown (subst (λ (d : ReceiverDeal). IsReceiverDeal d) (sym core.deal) is) shown.places
     (subst (λ (d : ReceiverDeal). All (IsTagList d.tag_length found.count) found.lists) (sym core.deal) found.stream.each)

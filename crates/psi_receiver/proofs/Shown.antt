@@ -8,7 +8,7 @@ use Rattle.psi_spec.specs.Deals.{ReceiverDeal}
 use Rattle.psi_spec.specs.Limits.{bins_for, rows_for}
 use Rattle.psi_spec.specs.Hits.{list_of_slot}
 use Rattle.psi_spec.specs.Placement.{MayHave, Slot, candidates_of}
-use Rattle.psi_receiver.specs.Own.{AreCarriable, AreCarried, AreItemsIn, AreOwnTags, AreShownBy, HasOwnTag, IsMarkedList, IsShownAmong, IsShownBy, Marked, marked_of, marks_of, own_tag_of, own_tags_in}
+use Rattle.psi_receiver.specs.Own.{AreCarriable, AreCarried, AreItemsIn, AreOwnTags, AreShownBy, AreUnmarked, AreUnshown, HasOwnTag, IsMarkedList, IsShownAmong, IsShownBy, Marked, marked_of, marks_of, own_tag_of, own_tags_in}
 use Rattle.psi_receiver.specs.declared.own.OwnList.{OwnList}
 use Rattle.psi_receiver.specs.declared.own.OwnTags.{OwnTags}
 use Rattle.psi_receiver.proofs.Marks.{slice_get-set_other, slice_get-set_same}
@@ -58,6 +58,15 @@ module _ (lists : List OwnList) where
           subst (IsShownAmong one.items.items one.hits.items item)
           (sym (kept item (λ too. d (carriable.apart list n one next item there at has too))))
           (before list one item (omega (arith, d)) there has)
+
+-- where no own tag is marked, the marks are carried to items of which none is shown
+pub no_marks_carried : (lists : List OwnList) (shown : List Bool) → AreUnmarked (map marked_of lists) → AreUnshown shown → AreCarried lists shown
+no_marks_carried lists shown none early list one item at has = record {
+  place = has.0;
+  within = has.1;
+  same = get_or_default one.items.items has.0 0 item has.1 ∙ has.2;
+  as_marked = early item ∙ sym (none list (marked_of one) (slice_get-map marked_of lists list ∙ ap (option_map marked_of) at) has.0);
+}
 
 -- ---- own tags of a deal
 

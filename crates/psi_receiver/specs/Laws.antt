@@ -1,11 +1,12 @@
 -- What a receiver's script comes to: the streams that it takes, what it sends for them, and what stands on the wire.
-use Rattle.std.specs.Prelude.{◌≡◌, ℕ, List, [], ◌++◌, length, take, drop}
-use Rattle.psi_spec.specs.Limits.{rows_for}
-use Rattle.psi_spec.specs.Deals.{ReceiverDeal, IsReceiverDeal}
+use Rattle.std.specs.Prelude.{◌≡◌, ◌≤◌, ℕ, List, [], ◌++◌, length, take, drop}
+use Rattle.psi_spec.specs.Limits.{limit_items, rows_for}
+use Rattle.psi_spec.specs.Deals.{ReceiverDeal, SenderDeal, ArePair, IsReceiverDeal}
 use Rattle.psi_spec.specs.Frames.{AreBytes}
 use Rattle.psi_spec.specs.Meeting.{Placed}
 use Rattle.psi_spec.specs.Sessions.{weave}
-use Rattle.psi_spec.specs.Streams.{IsSenderStream, dealt_sets, receiver_stream}
+use Rattle.psi_spec.specs.Streams.{IsSenderStream, dealt_sets, receiver_stream, sender_side, sender_stream}
+use Rattle.psi_spec.specs.TagLists.{tag_lists}
 use Rattle.psi_frames.specs.Dialogue.{Dialogue, good}
 use Rattle.psi_frames.specs.Expected.{frame_length}
 use Rattle.psi_frames.specs.Script.{Script, over, sends, awaits, by_front, dialogue_of}
@@ -49,3 +50,21 @@ HearsNothingElse =
     (deal : ReceiverDeal) (placed : List Placed) (bytes taken : List ℕ)
     → IsReceiverDeal deal → AreBytes bytes → (receiver_dialogue deal placed).reads_as bytes ≡ good taken
     → (count : ℕ) × (lists : List (List (List ℕ))) × IsStreamFor deal count lists taken
+
+-- the stream of a sender with the other deal of the pair, whatever its items are and whichever columns it took, is a
+-- stream for the receiver's deal, and so it is taken whole
+abbrev pub HearsHonestSenders : Type 0
+HearsHonestSenders =
+    (deal : ReceiverDeal) (placed : List Placed) (sender : SenderDeal) (count : ℕ) (sent ys : List (List ℕ))
+    → IsReceiverDeal deal → ArePair deal sender → length ys ≤ limit_items
+    → IsStreamFor deal (length ys) (tag_lists sender.stash (sender_side sender count sent) ys)
+    (sender_stream sender count sent ys)
+    × Hears deal placed (sender_stream sender count sent ys)
+
+-- whatever bytes of the peer were taken, and however much of what is owed for them was sent, it is a front of the
+-- receiver's stream
+abbrev pub SendsItsStream : Type 0
+SendsItsStream =
+    (deal : ReceiverDeal) (placed : List Placed) (taken : List ℕ) (n : ℕ)
+    → let sent = take n ((receiver_dialogue deal placed).owes taken) in
+    take (length sent) (own_stream deal placed) ≡ sent

@@ -106,6 +106,18 @@ pub record IsMerging (floor : List ℕ) (from : ℕ) (m : Marked) : Type 0 where
 
 -- ---- what is shown
 
+-- no item is shown
+abbrev pub AreUnshown : List Bool → Type 0
+AreUnshown shown = (i : ℕ) → slice_index_or shown i false ≡ false
+
+-- an item is shown exactly where its own tag is among the tags that frames have of the list of its slot
+abbrev pub AreShownFor : ReceiverDeal → List Slot → List Frame → List Bool → Type 0
+AreShownFor deal slots frames shown =
+    (i : ℕ) (slot : Slot) → slice_get slots i ≡ Some slot
+    → slice_index_or shown i false
+    ≡ is_among (tags_for deal.tag_length (list_of_slot (bins_for (length slots)) slot) frames)
+    (own_tag_of deal (rows_for deal.stash (length slots)) slot)
+
 -- an own tag has a place in its list, and is shown where it is marked there
 pub record IsShownBy (m : Marked) (tag : List ℕ) (shown : Bool) : Type 0 where
   pub place : ℕ

@@ -21,7 +21,7 @@ use Rattle.psi_receiver.specs.declared.phase.Merge.{Merge}
 use Rattle.psi_receiver.specs.declared.phase.Phase.{Phase}
 use Rattle.psi_receiver.specs.declared.phase.Phase.TheVariants as phase
 use Rattle.psi_receiver.specs.Marking.{is_among}
-use Rattle.psi_receiver.specs.Own.{AreMarked, AreOwnTags, AreShownBy, AreUnmarked, IsMarkedList, IsMerging, Marked, marks_of, own_tags_in}
+use Rattle.psi_receiver.specs.Own.{AreMarked, AreOwnTags, AreShownBy, AreShownFor, AreUnmarked, AreUnshown, IsMarkedList, IsMerging, Marked, marks_of, own_tags_in}
 use Rattle.psi_receiver.specs.Script.{answers_hello, awaits_blocks, awaits_lists, count_in, no_floor}
 
 -- ---- what is done
@@ -92,13 +92,22 @@ pub record HasFound (s : ReceiverState) : Type 0 where
   pub long : length s.shown ≡ length s.placed
   pub found : AreShownBy s.deal (slots_of s) s.lists s.shown
 
+-- at all times an end tells of each item whether it is shown: none is while a frame is awaited, and then each is by the
+-- mark of its own tag
+pub record TellsShown (s : ReceiverState) : Type 0 where
+  pub each : length s.shown ≡ length s.placed
+  pub early : ¬ ((state_of s).next ≡ over) → AreUnshown s.shown
+  pub found : (state_of s).next ≡ over → HasFound s
+
 -- what an end keeps against an end that it was before, once it took these frames: that end's deal and items, marks of
--- its own tags by these frames, and, once nothing is owed or awaited, its items shown by the marks
+-- its own tags by these frames, and, once no frame is awaited, its items shown by the marks: those whose own tag is in
+-- the list of their slot
 pub record KeptSince (first s : ReceiverState) (frames : List Frame) : Type 0 where
   pub deal : s.deal ≡ first.deal
   pub placed : s.placed ≡ first.placed
   pub marks : AreMarked s.deal.tag_length frames s.lists
-  pub found : (state_of s).owes ≡ [] → (state_of s).next ≡ over → HasFound s
+  pub found : (state_of s).next ≡ over → HasFound s
+  pub shown : (state_of s).next ≡ over → AreShownFor s.deal (slots_of s) frames s.shown
 
 -- ---- its parts
 
@@ -178,8 +187,16 @@ pub record IsAwaiting (deal : ReceiverDeal) (own : OwnTags) (merge : Merge) : Ty
 abbrev pub Stands : ReceiverDeal → List Slot → Memory → Phase → Type 0
 Stands deal slots memory (phase.Columns next count) = (next < 512) × (count ≤ limit_items)
 Stands deal slots memory (phase.Tags merge) = IsAwaiting deal memory.own merge
-Stands deal slots memory phase.Over = AreShownBy deal slots (marks_of memory.own) memory.shown.items
 Stands deal slots memory p = ⊤
+
+-- what is shown in a phase: nothing, and no own tag is marked, before tags are awaited; nothing while they are; and
+-- then the items by their marks, at the latest when the end was put
+abbrev pub ShowsIn : ReceiverDeal → List Slot → Memory → Phase → Type 0
+ShowsIn deal slots memory (phase.Tags merge) = AreUnshown memory.shown.items
+ShowsIn deal slots memory phase.Done =
+    ¬ (memory.outbox.pending ≡ []) → AreShownBy deal slots (marks_of memory.own) memory.shown.items
+ShowsIn deal slots memory phase.Over = AreShownBy deal slots (marks_of memory.own) memory.shown.items
+ShowsIn deal slots memory p = AreUnmarked (marks_of memory.own) × AreUnshown memory.shown.items
 
 -- what each session keeps
 pub record IsSession (deal : ReceiverDeal) (items : List (List ℕ)) (slots : List Slot) (memory : Memory) (p : Phase)
@@ -189,3 +206,4 @@ pub record IsSession (deal : ReceiverDeal) (items : List (List ℕ)) (slots : Li
   pub placed : IsPlacementOf deal.stash deal.key (bins_for (length items)) items slots
   pub holds : IsMemory deal items slots memory
   pub stands : Stands deal slots memory p
+  pub shows : ShowsIn deal slots memory p

@@ -25,6 +25,7 @@ mod tests;
 
 pub use logged::LoggedReceiver;
 pub use marking::mark;
+pub use psi_frames::{EndFault, Turn};
 pub use receiver::ReceiverCore;
 pub use rows::row_words;
 pub use run::run_receiver;

@@ -44,7 +44,7 @@ impl<'a> Model for LoggedReceiver<'a> {
 }
 
 impl<'a> LoggedReceiver<'a> {
-    ghost use Rattle.psi_receiver.specs.Running.{IsNewReceiver};
+    ghost use Rattle.psi_receiver.specs.Running.{IsNewReceiver, TellsShown};
 
     /// The end that took no frame yet, whose session goes on a record. It is refused only where memory is wanting.
     pub fn new(
@@ -63,9 +63,11 @@ impl<'a> LoggedReceiver<'a> {
         Ok(LoggedReceiver { core, log, frame })
     }
 
-    /// Of each item whether it is shown, in the order of the items: none is before all tags were taken.
+    /// Of each item whether it is shown, in the order of the items: none is before all tags were taken, and then each
+    /// is whose own tag is in the list of its slot.
     pub fn shown(&self) -> &[bool]
-        ensures { result.now ≡ self.now.core.shown }
+        ensures shown { result.now ≡ self.now.core.shown }
+        ensures tells { TellsShown self.now.core }
     {
         self.core.shown()
     }

@@ -3,7 +3,7 @@ ghost use Rattle.std.specs.Prelude.{◌≡◌, ◌≤◌, [], map, length, IfOk}
 ghost use Rattle.psi_spec.specs.Formulas.{item_digest};
 ghost use Rattle.psi_spec.specs.Limits.{bins_for, limit_items};
 ghost use Rattle.psi_spec.specs.Placement.{IsPlacementOf};
-ghost use Rattle.psi_receiver.specs.Own.{AreUnmarked, marks_of};
+ghost use Rattle.psi_receiver.specs.Own.{AreUnmarked, AreUnshown, marks_of};
 ghost use Rattle.psi_receiver.specs.Running.{IsMemory};
 
 use crate::own::OwnTags;
@@ -26,7 +26,7 @@ pub(crate) struct Memory {
     pub(crate) sent: Columns,
     /// The own tags of the items, with their marks.
     pub(crate) own: OwnTags,
-    /// Of each item whether it is shown, once all tags were taken.
+    /// Of each item whether it is shown: none is before all tags were taken.
     pub(crate) shown: Vec<bool>,
     /// What is to be sent, one frame at a time.
     pub(crate) outbox: Outbox,
@@ -48,6 +48,7 @@ impl Memory {
             items.now placement.now }
         ensures memory { IfOk result (IsMemory deal.now items.now placement.now) }
         ensures unmarked { IfOk result (λ memory. AreUnmarked (marks_of memory.own)) }
+        ensures unshown { IfOk result (λ memory. AreUnshown memory.shown.items) }
         ensures empty { IfOk result (λ memory. memory.outbox.pending ≡ []) }
     {
         let prepared = prepare(alloc, items, digests, deal, placement)?;

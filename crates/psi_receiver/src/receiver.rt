@@ -38,7 +38,7 @@ impl<'a> ReceiverCore<'a> {
     ghost use Rattle.psi_spec.specs.Columns.{column_bytes};
     ghost use Rattle.psi_spec.specs.Sessions.{dealt_masked};
     ghost use Rattle.psi_spec.specs.Streams.{column_frames};
-    ghost use Rattle.psi_receiver.specs.Running.{IsNewReceiver, KeptSince};
+    ghost use Rattle.psi_receiver.specs.Running.{IsNewReceiver, KeptSince, TellsShown};
 
     /// The end of items in their slots, whose hello is pending. `digests` are those of the items, in their order, and
     /// the placement is one of the items for the deal's key and stash. It is refused only where memory is wanting.
@@ -63,9 +63,11 @@ impl<'a> ReceiverCore<'a> {
         Ok(ReceiverCore { session })
     }
 
-    /// Of each item whether it is shown, in the order of the items: none is before all tags were taken.
+    /// Of each item whether it is shown, in the order of the items: none is before all tags were taken, and then each
+    /// is whose own tag is in the list of its slot.
     pub fn shown(&self) -> &[bool]
-        ensures { result.now ≡ self.now.shown }
+        ensures shown { result.now ≡ self.now.shown }
+        ensures tells { TellsShown self.now }
     {
         self.session.shown()
     }

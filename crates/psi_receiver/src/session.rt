@@ -6,7 +6,7 @@ ghost use Rattle.psi_spec.specs.Limits.{bins_for};
 ghost use Rattle.psi_spec.specs.Meeting.{placed_of};
 ghost use Rattle.psi_spec.specs.Placement.{IsPlacementOf};
 ghost use Rattle.psi_frames.specs.Expected.{seen};
-ghost use Rattle.psi_frames.specs.Script.{MayCome, after_sending, after_taking, due_frame, over, turn_of};
+ghost use Rattle.psi_frames.specs.Script.{MayCome, after_sending, after_taking, due_frame, turn_of};
 ghost use Rattle.psi_receiver.specs.Own.{AreMarked};
 
 use crate::memory::Memory;
@@ -44,7 +44,7 @@ impl<'a> Session<'a> {
     ghost use Rattle.psi_spec.specs.Columns.{column_bytes};
     ghost use Rattle.psi_spec.specs.Sessions.{dealt_masked};
     ghost use Rattle.psi_spec.specs.Streams.{column_frames};
-    ghost use Rattle.psi_receiver.specs.Running.{HasFound, IsNewReceiver, state_of};
+    ghost use Rattle.psi_receiver.specs.Running.{IsNewReceiver, TellsShown, state_of};
 
     /// The session of items in their slots: its hello is to be sent. It is refused only where memory is wanting.
     pub(crate) fn begin(
@@ -156,7 +156,7 @@ impl<'a> Session<'a> {
         ensures deal { self.new.deal ≡ self.old.deal }
         ensures placed { self.new.placed ≡ self.old.placed }
         ensures lists { self.new.lists ≡ self.old.lists }
-        ensures found { (state_of self.new).owes ≡ [] → (state_of self.new).next ≡ over → HasFound self.new }
+        ensures tells { TellsShown self.new }
     {
         if !self.pending().is_empty() {
             return;
@@ -189,9 +189,10 @@ impl<'a> Session<'a> {
         }
     }
 
-    /// Of each item whether it is shown.
+    /// Of each item whether it is shown, where something is pending if anything is owed.
     pub(crate) fn shown(&self) -> &[bool]
-        ensures { result.now ≡ self.now.shown }
+        ensures shown { result.now ≡ self.now.shown }
+        ensures tells { (self.now.pending ≡ [] → self.now.rest ≡ []) → TellsShown self.now }
     {
         &self.memory.shown
     }

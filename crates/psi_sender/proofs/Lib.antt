@@ -5,4 +5,6 @@ mod Coming
 mod Going
 pub mod Awaited
 pub mod Serving
+mod Owing
+mod Honest
 pub mod Within

@@ -88,7 +88,7 @@ serves_streams deal ys count columns bytes is stream =
 
 -- ---- nothing else
 
-hello_read : (deal : SenderDeal) (f : Frame) → AreBytes (layout f) → IsValid (expect.ReceiverHello deal.id deal.session) f
+pub hello_read : (deal : SenderDeal) (f : Frame) → AreBytes (layout f) → IsValid (expect.ReceiverHello deal.id deal.session) f
     → (count : ℕ) × (f ≡ receiver_hello deal.id deal.session count) × (count ≤ limit_items)
 hello_read deal f bytes valid = by_parts f ((valid_by_parts (expect.ReceiverHello deal.id deal.session) f bytes (omega arith)).0 valid).1
   where
@@ -104,7 +104,7 @@ hello_read deal f bytes valid = by_parts f ((valid_by_parts (expect.ReceiverHell
     by_parts done_frame parts = absurd parts
 
 -- the frames that a sender awaited are those of a receiver's stream
-were_stream : (deal : SenderDeal) (ys : List (List ℕ)) (frames : List Frame) → IsSenderDeal deal → AreBytes (flat_map layout frames)
+pub were_stream : (deal : SenderDeal) (ys : List (List ℕ)) (frames : List Frame) → IsSenderDeal deal → AreBytes (flat_map layout frames)
     → AreAwaited (sender_script deal ys) frames → (count : ℕ) × (columns : List (List ℕ)) × IsStreamFor deal count columns (flat_map layout frames)
 were_stream deal ys [] is bytes due = absurd due
 were_stream deal ys (f ∷ frames) is bytes due =

@@ -13,5 +13,6 @@ mod steps;
 #[cfg(test)]
 mod tests;
 
+pub use psi_frames::{EndFault, Turn};
 pub use run::run_sender;
 pub use sender::SenderCore;

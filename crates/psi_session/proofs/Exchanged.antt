@@ -71,7 +71,7 @@ module _ (receiver : ReceiverState) (sender : SenderState) (new : IsNewReceiver 
       let kept : KeptSince receiver after taken = keeps receiver [] [] (kept_new receiver new) in
       let deal : ReceiverDeal = after.deal in
       let count : ℕ = length sender.items in
-      let found = kept.found done.owes done.next in
+      let found = kept.found done.next in
       let hello : sender_hello sender.deal.id sender.deal.session count ≡ sender_hello deal.id deal.session count =
       ap₂ (λ (id : List ℕ) (session : ℕ). sender_hello id session count) (sym pair.id) (sym pair.session) ∙ ap (λ (d : ReceiverDeal). sender_hello d.id d.session count) (sym kept.deal) in
       let frames : taken ≡ sender_hello deal.id deal.session count ∷ lists_list 0 own_lists =

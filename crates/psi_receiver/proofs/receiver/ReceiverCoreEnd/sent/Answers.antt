@@ -13,4 +13,4 @@ returns-clause-keeps c first before wire kept =
     let marks = subst (λ (lists : List Marked). AreMarked s.deal.tag_length before lists) (sym c.sent.ensures.lists) was.marks in
     kept_on first s c.sent.new.self c.refill.new.self before (before ++ []) was c.sent.ensures.deal c.sent.ensures.placed
     (subst (λ (frames : List Frame). AreMarked s.deal.tag_length frames c.sent.new.self.lists) (sym (append-nil before)) marks)
-    c.refill.ensures.deal c.refill.ensures.placed c.refill.ensures.lists c.refill.ensures.found
+    c.refill.ensures.deal c.refill.ensures.placed c.refill.ensures.lists c.refill.ensures.tells.found

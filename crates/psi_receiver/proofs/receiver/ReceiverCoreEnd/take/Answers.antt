@@ -9,4 +9,4 @@ returns-clause-keeps c first before wire kept =
     let s : ReceiverState = c.self.inside.session in
     let was = subst (λ (r : ReceiverState). KeptSince first r before) (sym c.self.view_is) kept in
     kept_on first s c.take.new.self c.refill.new.self before (before ++ seen c.args.frame.now ∷ []) was c.take.ensures.deal c.take.ensures.placed (c.take.ensures.marks before was.marks)
-    c.refill.ensures.deal c.refill.ensures.placed c.refill.ensures.lists c.refill.ensures.found
+    c.refill.ensures.deal c.refill.ensures.placed c.refill.ensures.lists c.refill.ensures.tells.found

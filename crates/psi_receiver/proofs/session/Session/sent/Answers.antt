@@ -1,7 +1,8 @@
-use Rattle.std.proofs.Common.{ℕ, ◌+◌, ◌≤◌, length, sym, ap, subst, ◌∙◌}
+use Rattle.std.proofs.Common.{drop, ℕ, ◌+◌, ◌≤◌, length, sym, ap, subst, ◌∙◌}
 use Rattle.psi_spec.specs.Columns.{column_bytes}
 use Rattle.psi_frames.specs.Boxes.{OutboxState}
 use Rattle.psi_receiver.proofs.Going.{spare_after}
+use Rattle.psi_receiver.proofs.Holding.{drop_none, shows_while_sent}
 use Rattle.psi_receiver.proofs.session.Session.sent.Goals as goal
 
 pub invariant_of-self : goal.invariant_of-self
@@ -28,4 +29,5 @@ invariant_of-self c =
             ∙ ap (λ (b : OutboxState). b.room) (sym sent));
       };
       stands = kept.stands;
+      shows = shows_while_sent c.self.inside.deal.now c.self.inside.placement.now c.self.inside.memory c.self.inside.phase c.sent.new.self (λ none. ap (λ (b : OutboxState). b.pending) sent ∙ ap (drop c.args.n) none ∙ drop_none c.args.n) kept.shows;
     }

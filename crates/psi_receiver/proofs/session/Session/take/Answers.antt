@@ -76,7 +76,7 @@ invariant_of-self-in-Tags-frame c =
     let at = block_at s.deal.now s.items.now s.placement.now s.memory m c.args.self.now f bytes is view c.requires (ap (λ (g : lent.Frame). bytes_in (seen g)) c.in-Tags-frame.is) in
     let merged = c.merge_block-self-inside.ensures in
     session_after_block s.deal.now s.items.now s.placement.now s.memory c.merge_block-self-inside.new.own m at.1.tag (last_in s.deal.now.tag_length bytes) merged.phase.0
-    c.merge_block-self-inside.result is (merged.own s.placement.now is.holds.own) at.1.tag_long at.1.last merged.phase.1 merged.phase.2
+    c.merge_block-self-inside.result is (merged.own s.placement.now is.holds.own) at.1.tag_long at.1.last merged.phase.1 at.0 merged.phase.2
 
 pub returns-in-SenderHello-clause-state : goal.returns-in-SenderHello-clause-state
 returns-in-SenderHello-clause-state c =
