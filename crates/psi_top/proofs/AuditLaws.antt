@@ -15,21 +15,22 @@ use Rattle.psi_log.specs.BadRecords.{bad_record}
 use Rattle.psi_top.specs.Audit.{audit_record, audit_session, audit_text, audit_tree, findings_of}
 use Rattle.psi_top.specs.AuditPromises.{AuditAnswers, AuditCompletes, CanAudit, Evidence, HasEvidence, IsConsistent, IsDueFile, IsOfAudit, findings_in, limit_of}
 use Rattle.psi_top.specs.Commands.{Answers}
-use Rattle.psi_top.specs.Due.{told}
-use Rattle.psi_top.specs.Files.{items_in, reads_items, reads_receiver, reads_record, reads_sender, receiver_in, record_in, sender_in}
-use Rattle.psi_top.specs.JudgedFiles.{HasItems, HasReceiverDeal, HasRecord, HasSenderDeal}
-use Rattle.psi_top.specs.Promises.{IsAnswered, IsOfEffect, IsOfEnd, IsReady, IsSilent, IsUnread, Leaves}
-use Rattle.psi_top.specs.Tree.{Effect, says, decides, ends, End}
+use Rattle.psi_walk.specs.Due.{told}
+use Rattle.psi_walk.specs.Files.{items_in, reads_items, reads_receiver, reads_record, reads_sender, receiver_in, record_in, sender_in}
+use Rattle.psi_walk.specs.JudgedFiles.{HasItems, HasReceiverDeal, HasRecord, HasSenderDeal}
+use Rattle.psi_walk.specs.Promises.{IsAnswered, IsFailedEffect, IsOfEnd, IsReady, IsSilent, IsUnread, Leaves}
+use Rattle.psi_walk.specs.Tree.{Effect, says, decides, ends, End}
 use Rattle.psi_top.specs.declared.findings.Findings.{Findings}
 use Rattle.psi_words.specs.declared.form.Command.TheVariants.{Audit}
 use Rattle.psi_texts.specs.declared.status.Status.{Status}
 use Rattle.psi_texts.specs.declared.status.Status.TheVariants as status
-use Rattle.psi_top.proofs.Answered.{follows_answers}
-use Rattle.psi_top.proofs.JudgedFiles.{AtFile, unread, wanting, refused, taken_on, answered_items, answered_receiver, answered_record, answered_sender, has_bad_line, has_bad_receiver, has_bad_record, has_bad_sender, has_items, has_receiver, has_record, has_sender, items_bad, left_decides, left_items, left_receiver, left_record, left_sender, receiver_bad, record_bad, sender_bad}
+use Rattle.psi_walk.proofs.Answered.{follows_answers}
+use Rattle.psi_walk.proofs.JudgedFiles.{AtFile, unread, wanting, refused, taken_on, answered_items, answered_receiver, answered_record, answered_sender, has_bad_line, has_bad_receiver, has_bad_record, has_bad_sender, has_items, has_receiver, has_record, has_sender, items_bad, left_decides, left_items, left_receiver, left_record, left_sender, receiver_bad, record_bad, sender_bad}
 use Rattle.psi_top.proofs.Laws.{answers_done, answers_through, follows_told}
 use Rattle.psi_top.proofs.ReceiveLaws.{deal_of, receiver_ready}
-use Rattle.psi_top.proofs.SendLaws.{items_ready, ready_on, sender_deal_of, sender_ready}
-use Rattle.psi_top.proofs.Unplaced.{PlacesNone, decides_none, items_place_none, none_is_placed, sender_places_none}
+use Rattle.psi_top.proofs.SendLaws.{sender_deal_of, sender_ready}
+use Rattle.psi_walk.proofs.Ready.{is_there, items_ready, ready_on, ready_told}
+use Rattle.psi_walk.proofs.Unplaced.{PlacesNone, decides_none, items_place_none, none_is_placed, sender_places_none}
 use Rattle.psi_top.proofs.Verdicts.{Says, consistent_is_found, evidence_says}
 
 -- ---- what was read
@@ -102,8 +103,8 @@ wanted known words before why after s quiet = subst (λ (x : Status). AuditAnswe
 
 -- a file that was due was not read
 not_read : (known : Known) (words : List (List ℕ)) (before : Outside) (word limit : ℕ) → IsDueFile known words before word → limit ≡ limit_of word
-    → (why : Status) (after : Outside) → IsUnread word limit why → AuditAnswers known words before why after
-not_read known words before word limit due is (status.FileFault place) after h = subst (λ (w : ℕ). IsDueFile known words before w) (sym h) due
+    → (why : Status) (after : Outside) → IsUnread known words word limit why → AuditAnswers known words before why after
+not_read known words before word limit due is (status.FileFault place) after h = (subst (λ (w : ℕ). IsDueFile known words before w) (sym h.0) due, h.1)
 not_read known words before word limit due is (status.TooLong place taken) after h = (
   subst (λ (w : ℕ). IsDueFile known words before w) (sym h.0) due,
   subst (λ (n : ℕ). n < taken) (is ∙ ap limit_of (sym h.0)) h.1,
@@ -113,15 +114,15 @@ not_read known words before word limit due is _ after h = absurd h
 
 -- the text is all that is printed at the end
 of_end : (known : Known) (words : List (List ℕ)) (before : Outside) (text : List ℕ) (e : Evidence) → HasEvidence known words before e → IsConsistent e
-    → (why : Status) (after : Outside) → (why ≡ status.Done → AuditAnswers known words before why after) → IsOfEnd false why (says text ∷ [])
+    → (why : Status) (after : Outside) → (why ≡ status.Done → AuditAnswers known words before why after) → IsOfEnd known words false why (says text ∷ [])
     → AuditAnswers known words before why after
 of_end known words before text e has is status.Done after done h = done refl
 of_end known words before text e has is status.NoMemory after done h = tt
 of_end known words before text e has is status.PrintFault after done h = (e, has, is)
 of_end known words before text e has is (status.FileFault place) after done h = absurd (no_file h.0 h.1 h.2 h.3)
   where
-    no_file : (at : ℕ) (effect : Effect) → slice_get (says text ∷ []) at ≡ Some effect → IsOfEffect (status.FileFault place) effect → ⊥
-    no_file zero effect e f = let same : effect ≡ says text = cc e in let g : IsOfEffect (status.FileFault place) (says text) = subst (IsOfEffect (status.FileFault place)) same f in g
+    no_file : (at : ℕ) (effect : Effect) → slice_get (says text ∷ []) at ≡ Some effect → IsFailedEffect known words (status.FileFault place) effect → ⊥
+    no_file zero effect e f = let same : effect ≡ says text = cc e in let g : IsFailedEffect known words (status.FileFault place) (says text) = subst (IsFailedEffect known words (status.FileFault place)) same f in g
     no_file (suc at) effect e f = cc e
 of_end known words before text e has is _ after done h = absurd h.3
 
@@ -261,7 +262,7 @@ unfolding record_in
 record_ready bytes none = rw none refl
 
 record_is_ready : (words : List (List ℕ)) (files : Files) (before : Outside) (can : CanAudit words files)
-    → IsReady (told files words) before (audit_record can.receiver can.sender (items_of can.x.bytes) (items_of can.y.bytes))
+    → IsReady (told (Some files) words) before (audit_record can.receiver can.sender (items_of can.x.bytes) (items_of can.y.bytes))
 unfolding reads_record
 record_is_ready words files before can =
     let xs : List (List ℕ) = items_of can.x.bytes in
@@ -269,61 +270,61 @@ record_is_ready words files before can =
     let log : LoggedSession = logged_of can.log_bytes in
     let e : Evidence = record { xs = xs; ys = ys; receiver = can.receiver; sender = can.sender; log = log } in (
       can.log_bytes,
-      can.log_there,
+      is_there files words 5 can.log_bytes can.log_there,
       can.log_short,
-      ready_on (told files words) before (record_in can.log_bytes) log (λ l. audit_session can.receiver can.sender xs ys l) (record_ready can.log_bytes can.log_good)
-          (ready_on (told files words) before (findings_of can.receiver can.sender xs ys log) (findings_in e)
+      ready_on (told (Some files) words) before (record_in can.log_bytes) log (λ l. audit_session can.receiver can.sender xs ys l) (record_ready can.log_bytes can.log_good)
+          (ready_on (told (Some files) words) before (findings_of can.receiver can.sender xs ys log) (findings_in e)
           (λ found. ends None (says (audit_text (length found.shown) found.collisions) ∷ [])) (consistent_is_found e can.consistent) tt),
     )
 
 sender_is_ready : (words : List (List ℕ)) (files : Files) (before : Outside) (can : CanAudit words files)
-    → IsReady (told files words) before (reads_sender 4 (λ sender. audit_record can.receiver sender (items_of can.x.bytes) (items_of can.y.bytes)))
+    → IsReady (told (Some files) words) before (reads_sender 4 (λ sender. audit_record can.receiver sender (items_of can.x.bytes) (items_of can.y.bytes)))
 unfolding reads_sender
 sender_is_ready words files before can = (
   sender_bytes can.sender,
-  can.s_there,
+  is_there files words 4 (sender_bytes can.sender) can.s_there,
   omega (arith, length-sender_bytes can.sender can.sender_is),
-  ready_on (told files words) before (sender_in 4 (sender_bytes can.sender)) can.sender
+  ready_on (told (Some files) words) before (sender_in 4 (sender_bytes can.sender)) can.sender
       (λ sender. audit_record can.receiver sender (items_of can.x.bytes) (items_of can.y.bytes)) (sender_ready 4 can.sender can.sender_is)
       (record_is_ready words files before can),
 )
 
 receiver_is_ready : (words : List (List ℕ)) (files : Files) (before : Outside) (can : CanAudit words files)
-    → IsReady (told files words) before (reads_receiver 3 (λ receiver. reads_sender 4 (λ sender. audit_record receiver sender (items_of can.x.bytes) (items_of can.y.bytes))))
+    → IsReady (told (Some files) words) before (reads_receiver 3 (λ receiver. reads_sender 4 (λ sender. audit_record receiver sender (items_of can.x.bytes) (items_of can.y.bytes))))
 unfolding reads_receiver
 receiver_is_ready words files before can = (
   receiver_bytes can.receiver,
-  can.r_there,
+  is_there files words 3 (receiver_bytes can.receiver) can.r_there,
   omega (arith, length-receiver_bytes can.receiver can.receiver_is),
-  ready_on (told files words) before (receiver_in 3 (receiver_bytes can.receiver)) can.receiver
+  ready_on (told (Some files) words) before (receiver_in 3 (receiver_bytes can.receiver)) can.receiver
       (λ receiver. reads_sender 4 (λ sender. audit_record receiver sender (items_of can.x.bytes) (items_of can.y.bytes))) (receiver_ready 3 can.receiver can.receiver_is)
       (sender_is_ready words files before can),
 )
 
 second_is_ready : (words : List (List ℕ)) (files : Files) (before : Outside) (can : CanAudit words files)
-    → IsReady (told files words) before
+    → IsReady (told (Some files) words) before
     (reads_items 2 (λ ys. reads_receiver 3 (λ receiver. reads_sender 4 (λ sender. audit_record receiver sender (items_of can.x.bytes) ys))))
 unfolding reads_items
 second_is_ready words files before can = (
   can.y.bytes,
-  can.y.there,
+  is_there files words 2 can.y.bytes can.y.there,
   can.y.short,
-  ready_on (told files words) before (items_in 2 can.y.bytes) (items_of can.y.bytes)
+  ready_on (told (Some files) words) before (items_in 2 can.y.bytes) (items_of can.y.bytes)
       (λ ys. reads_receiver 3 (λ receiver. reads_sender 4 (λ sender. audit_record receiver sender (items_of can.x.bytes) ys)))
       (items_ready words can.y.bytes 2 can.y.good) (receiver_is_ready words files before can),
 )
 
-audit_is_ready : (words : List (List ℕ)) (files : Files) (before : Outside) (can : CanAudit words files) → IsReady (told files words) before audit_tree
+audit_is_ready : (words : List (List ℕ)) (files : Files) (before : Outside) (can : CanAudit words files) → IsReady (told (Some files) words) before audit_tree
 unfolding reads_items
 audit_is_ready words files before can = (
   can.x.bytes,
-  can.x.there,
+  is_there files words 1 can.x.bytes can.x.there,
   can.x.short,
-  ready_on (told files words) before (items_in 1 can.x.bytes) (items_of can.x.bytes)
+  ready_on (told (Some files) words) before (items_in 1 can.x.bytes) (items_of can.x.bytes)
       (λ xs. reads_items 2 (λ ys. reads_receiver 3 (λ receiver. reads_sender 4 (λ sender. audit_record receiver sender xs ys))))
       (items_ready words can.x.bytes 1 can.x.good) (second_is_ready words files before can),
 )
 
 pub answers_audited : (known : Known) (words : List (List ℕ)) (before : Outside) (end : End) → Answers known words before end → AuditCompletes words before end
-answers_audited known words before end h = λ files incoming is coming fit named can calm.
-    answers_through known words before end h files incoming Audit is coming fit named (audit_is_ready words files before can) calm
+answers_audited known words before end h = λ files is fit named can calm.
+    answers_through known words before end h Audit fit named (ready_told files words before audit_tree is (audit_is_ready words files before can)) calm

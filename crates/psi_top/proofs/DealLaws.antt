@@ -6,7 +6,7 @@ use Rattle.psi_spec.proofs.Dealing.{dealt_are_pairs}
 use Rattle.psi_base.specs.Outside.{Known, Outside}
 use Rattle.psi_top.specs.Commands.{Answers}
 use Rattle.psi_top.specs.Deal.{DealWrites, deal_receiver, deal_sender}
-use Rattle.psi_top.specs.Tree.{End}
+use Rattle.psi_walk.specs.Tree.{End}
 use Rattle.psi_words.specs.declared.form.Command.TheVariants.{Deal}
 use Rattle.psi_top.proofs.Laws.{answers_done}
 

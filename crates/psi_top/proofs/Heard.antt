@@ -15,13 +15,15 @@ use Rattle.psi_base.specs.Outside.{Known, Outside}
 use Rattle.psi_receiver.specs.Laws.{own_stream, receiver_dialogue}
 use Rattle.psi_receiver.specs.Receiving.{Received}
 use Rattle.psi_top.specs.Receive.{IsHeard, marked, session_record, shown_text, shows_and_keeps}
-use Rattle.psi_top.specs.Tree.{Effect, says, puts, Placing, Tree, places, talks, ends, End, ended, stopped}
-use Rattle.psi_top.specs.Walk.{Follows, Makes, Places, Runs, StepsTalk, status_of}
+use Rattle.psi_walk.specs.Tree.{Effect, says, puts, Placing, Tree, places, talks, ends, End, ended, stopped}
+use Rattle.psi_walk.specs.Walk.{Follows, Makes, Places, Runs, StepsTalk, status_of}
 use Rattle.psi_texts.specs.declared.status.Status.{Status}
 use Rattle.psi_texts.specs.declared.status.Status.TheVariants as status
 use Rattle.psi_top.proofs.Marks.{length-hits_of, marked_hits}
 use Rattle.psi_top.proofs.StreamLists.{lists_of_stream}
-use Rattle.psi_top.proofs.Walks.{ends_done, places_on, talks_on}
+use Rattle.psi_walk.proofs.Walks.{ends_done, talks_on}
+use Rattle.psi_walk.proofs.Carried.{places_last}
+use Rattle.psi_walk.proofs.Unplaced.{PlacesNone}
 
 -- ---- a session
 
@@ -97,8 +99,8 @@ kept known words bytes file before after (Err why) e h =
 
 -- a set that got slots, and what came after it
 pub then_placed : (known : Known) (words : List (List ℕ)) (word : ℕ) (set : Placing) (next : List Slot → Tree) (before after : Outside) (slots : List Slot) (why due : Status) → why ≡ due
-    → Places word set (Ok slots) → Runs known words (next slots) before (stopped due after)
+    → PlacesNone (next slots) → Places word set (Ok slots) → Runs known words (next slots) before (stopped due after)
     → Runs known words (places word set next) before (ended (record { status = why; placement = Some slots; second = None; wire = None }) after)
-then_placed known words word set next before after slots why due e is rest =
+then_placed known words word set next before after slots why due e none is rest =
     subst (λ (s : Status). Runs known words (places word set next) before (ended (record { status = s; placement = Some slots; second = None; wire = None }) after)) (sym e)
-    (places_on known words word set next before slots (stopped due after) is rest)
+    (places_last known words word set next before slots (stopped due after) none is rest)

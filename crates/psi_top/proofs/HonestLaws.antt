@@ -15,7 +15,7 @@ use Rattle.psi_receiver.specs.Laws.{IsStreamFor}
 use Rattle.psi_receiver.proofs.Hearing.{width_of}
 use Rattle.psi_top.specs.Commands.{Answers}
 use Rattle.psi_top.specs.ReceivePromises.{IsHonest, ReceiveFinds, ShowsCommonItems, hit_lines}
-use Rattle.psi_top.specs.Tree.{End}
+use Rattle.psi_walk.specs.Tree.{End}
 use Rattle.psi_words.specs.declared.form.Command.TheVariants.{Receive}
 use Rattle.psi_top.proofs.Laws.{answers_done}
 use Rattle.psi_top.proofs.ReceiveLaws.{deal_of, receive_leaves}
@@ -48,6 +48,7 @@ answers_found known words before end h = λ fit named done.
       x_file = session.x_file;
       r_file = session.r_file;
       placement = session.placement;
+      picked = session.picked;
       carried = session.carried;
       taken = stream.taken;
       were_taken = stream.were_taken;

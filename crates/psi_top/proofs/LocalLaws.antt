@@ -16,23 +16,27 @@ use Rattle.psi_spec.proofs.Finding.{pairs_find_shown}
 use Rattle.psi_spec.proofs.Placing.{items_of-placed_of}
 use Rattle.psi_base.specs.Outside.{Known, Outside, Files, printed_too, written}
 use Rattle.psi_top.specs.Commands.{Answers}
-use Rattle.psi_top.specs.Due.{after_effects, told}
-use Rattle.psi_top.specs.Files.{items_in, reads_items}
-use Rattle.psi_top.specs.JudgedFiles.{HasItems}
-use Rattle.psi_top.specs.Local.{keeps, local_receiver, local_sender, local_session, local_set, local_setup, local_text, local_tree}
+use Rattle.sha2.specs.Sha256.{sha256}
+use Rattle.psi_walk.specs.Due.{after_effects, told}
+use Rattle.psi_walk.specs.Files.{items_in, reads_items}
+use Rattle.psi_walk.specs.JudgedFiles.{HasItems}
+use Rattle.psi_top.specs.Local.{keeps, local_receiver, local_rest, local_sender, local_session, local_set, local_setup, local_text, local_tree}
 use Rattle.psi_top.specs.LocalPromises.{CanPlay, HasRecordWord, IsOfLocal, LocalAnswers, LocalCompletes, LocalShows, PrintedShown, WasPlaced, recorded}
-use Rattle.psi_top.specs.Promises.{IsAnswered, IsOfEffect, IsOfEnd, IsReady, IsSilent, IsUnread, Leaves}
-use Rattle.psi_top.specs.Receive.{placing_of}
-use Rattle.psi_top.specs.Tree.{Effect, says, puts, End}
-use Rattle.psi_top.specs.Walk.{IsNotPlaced}
+use Rattle.psi_walk.specs.Promises.{IsAnswered, IsFailedEffect, IsOfEnd, IsReady, IsSilent, IsUnread, Leaves, WriteFailed}
+use Rattle.psi_walk.specs.Placing.{placing_of}
+use Rattle.psi_walk.specs.Tree.{Effect, says, puts, End}
+use Rattle.psi_walk.specs.Walk.{IsNotPlaced}
 use Rattle.psi_words.specs.declared.form.Command.TheVariants.{Local}
 use Rattle.psi_texts.specs.declared.status.Status.{Status}
 use Rattle.psi_texts.specs.declared.status.Status.TheVariants as status
-use Rattle.psi_top.proofs.Answered.{follows_answers}
-use Rattle.psi_top.proofs.JudgedFiles.{AtFile, unread, wanting, refused, taken_on, answered_items, has_bad_line, has_items, items_bad, left_items}
+use Rattle.psi_walk.proofs.Answered.{follows_answers}
+use Rattle.psi_walk.proofs.JudgedFiles.{AtFile, unread, wanting, refused, taken_on, answered_items, has_bad_line, has_items, items_bad, left_items}
 use Rattle.psi_top.proofs.Laws.{answers_done, answers_through, follows_told}
+use Rattle.psi_top.proofs.HidingLaws.{hides_list}
 use Rattle.psi_top.proofs.ReceiveLaws.{is_placement}
-use Rattle.psi_top.proofs.SendLaws.{items_ready, ready_on}
+use Rattle.psi_walk.proofs.Carried.{last_carries}
+use Rattle.psi_walk.proofs.Ready.{is_there, items_ready, ready_on, ready_told}
+use Rattle.psi_walk.proofs.Unplaced.{ends_place_none}
 
 -- ---- the named deals
 
@@ -91,6 +95,7 @@ set_leaves known words before xs ys end x_file y_file h =
       y_file = y_file;
       pair = local_pair words;
       placement = placement;
+      picked = h.2.1;
       carried = ap (λ (d : End). d.placed) h.3 ∙ ap (λ (d : End). slots ∷ d.placed) h.4;
       left = ap (λ (d : End). d.left) h.3 ∙ (ap (λ (d : End). d.left) h.4
           ∙ (done_is_recorded words before (local_text words xs slots ys) file
@@ -98,6 +103,7 @@ set_leaves known words before xs ys end x_file y_file h =
       wire = ap (λ (d : End). d.wire) h.3 ∙ ap (λ (d : End). d.wire) h.4;
       common = λ item own other. finds.shows.common item (subst (λ (all : List (List ℕ)). Contains all item) (sym items) own) other;
       others = finds.shows.others;
+      hidden = hides_list (local_receiver words) xs slots placement;
     }
 
 local_leaves : (known : Known) (words : List (List ℕ)) (before : Outside) (end : End) → Leaves known words (local_tree words) before end
@@ -121,69 +127,71 @@ wanted : (known : Known) (words : List (List ℕ)) (before : Outside) (slots : L
 unfolding Answered
 wanted known words before slots why after s quiet none = subst (λ (x : Status). Answered known words before slots x after) (sym s) (inl none, quiet)
 
-first_unread : (known : Known) (words : List (List ℕ)) (before : Outside) (slots : List (List Slot)) (why : Status) → IsUnread 1 file_limit why → slots ≡ []
+first_unread : (known : Known) (words : List (List ℕ)) (before : Outside) (slots : List (List Slot)) (why : Status) → IsUnread known words 1 file_limit why → slots ≡ []
     → LocalAnswers known words before slots why
-first_unread known words before slots (status.FileFault place) h none = inl (inl h, none)
+first_unread known words before slots (status.FileFault place) h none = inl (inl h.0, h.1, none)
 first_unread known words before slots (status.TooLong place taken) h none = (inl h.0, h.1, none)
 first_unread known words before slots status.NoMemory h none = inl none
 first_unread known words before slots _ h none = absurd h
 
 second_unread : (known : Known) (words : List (List ℕ)) (before : Outside) (slots : List (List Slot)) (xs : List (List ℕ)) → HasItems known words before 1 xs
-    → (why : Status) → IsUnread 2 file_limit why → slots ≡ [] → LocalAnswers known words before slots why
-second_unread known words before slots xs first (status.FileFault place) h none = inl (inr (xs, first, h), none)
+    → (why : Status) → IsUnread known words 2 file_limit why → slots ≡ [] → LocalAnswers known words before slots why
+second_unread known words before slots xs first (status.FileFault place) h none = inl (inr (xs, first, h.0), h.1, none)
 second_unread known words before slots xs first (status.TooLong place taken) h none = (inr (xs, first, h.0), h.1, none)
 second_unread known words before slots xs first status.NoMemory h none = inl none
 second_unread known words before slots xs first _ h none = absurd h
 
 -- only the record is written, and only where there is a word for it
-only_record : (words : List (List ℕ)) (text file : List ℕ) (at : ℕ) (effect : Effect) (place : ℕ) → slice_get (says text ∷ keeps words file) at ≡ Some effect
-    → IsOfEffect (status.FileFault place) effect → (place ≡ 6) × HasRecordWord words
-only_record words text file at effect place e h = by_word (nat_lt 6 (length words)) refl at e
+only_record : (known : Known) (words : List (List ℕ)) (text file : List ℕ) (at : ℕ) (effect : Effect) (place : ℕ) → slice_get (says text ∷ keeps words file) at ≡ Some effect
+    → IsFailedEffect known words (status.FileFault place) effect → (place ≡ 6) × WriteFailed known words place × HasRecordWord words
+only_record known words text file at effect place e h = by_word (nat_lt 6 (length words)) refl at e
   where
     same : (one other : Effect) → Some one ≡ Some other → one ≡ other
     same one other e = cc e
 
     by_word : (b : Bool) → nat_lt 6 (length words) ≡ b → (at : ℕ) → slice_get (says text ∷ (if b then puts 6 file ∷ [] else [])) at ≡ Some effect
-        → (place ≡ 6) × HasRecordWord words
+        → (place ≡ 6) × WriteFailed known words place × HasRecordWord words
     by_word b t zero e =
-        absurd (let f : IsOfEffect (status.FileFault place) (says text) = subst (λ (x : Effect). IsOfEffect (status.FileFault place) x) (sym (same (says text) effect e)) h in f)
-    by_word true t (suc zero) e = (
-      let f : IsOfEffect (status.FileFault place) (puts 6 file) = subst (λ (x : Effect). IsOfEffect (status.FileFault place) x) (sym (same (puts 6 file) effect e)) h in f,
-      grind (arith, nat_tests),
-    )
+        absurd (let f : IsFailedEffect known words (status.FileFault place) (says text) = subst (λ (x : Effect). IsFailedEffect known words (status.FileFault place) x) (sym (same (says text) effect e)) h in f)
+    by_word true t (suc zero) e =
+        let f : IsFailedEffect known words (status.FileFault place) (puts 6 file) =
+        subst (λ (x : Effect). IsFailedEffect known words (status.FileFault place) x) (sym (same (puts 6 file) effect e)) h in
+        (f.0, f.1, grind (arith, nat_tests))
     by_word true t (suc (suc at)) e = cc e
     by_word false t (suc at) e = cc e
 
 of_end : (known : Known) (words : List (List ℕ)) (before : Outside) (slots : List (List Slot)) (text file : List ℕ) → WasPlaced known words before slots
-    → (why : Status) → IsOfEnd false why (says text ∷ keeps words file) → LocalAnswers known words before slots why
+    → (why : Status) → IsOfEnd known words false why (says text ∷ keeps words file) → LocalAnswers known words before slots why
 of_end known words before slots text file was status.Done h = was
 of_end known words before slots text file was status.PrintFault h = was
 of_end known words before slots text file was status.NoMemory h = inr was
 of_end known words before slots text file was (status.FileFault place) h =
-    let of_record = only_record words text file h.0 h.1 place h.2 h.3 in
-    inr (of_record.0, of_record.1, was)
+    let of_record = only_record known words text file h.0 h.1 place h.2 h.3 in
+    inr (of_record.0, of_record.1, of_record.2, was)
 of_end known words before slots text file was _ h = absurd h.3
 
 not_placed : (known : Known) (words : List (List ℕ)) (before : Outside) (xs ys : List (List ℕ)) → HasItems known words before 1 xs → HasItems known words before 2 ys
-    → (why : Status) → IsNotPlaced 1 (placing_of (local_receiver words) xs) why → LocalAnswers known words before [] why
+    → (slots : List (List Slot)) (why : Status) → IsNotPlaced 1 (placing_of (local_receiver words) xs) why → slots ≡ [] → LocalAnswers known words before slots why
 unfolding placing_of
-not_placed known words before xs ys first second (status.NoPlacement place items touched) h =
-    (h.0, record { xs = xs; ys = ys; x_file = first; y_file = second; fact = (h.1, h.2) }, refl)
-not_placed known words before xs ys first second status.NoMemory h = inl refl
-not_placed known words before xs ys first second _ h = absurd h
+not_placed known words before xs ys first second slots (status.NoPlacement place items touched) h none =
+    (h.0, record { xs = xs; ys = ys; x_file = first; y_file = second; fact = (h.1.0, h.2) }, none)
+not_placed known words before xs ys first second slots status.NoMemory h none = inl none
+not_placed known words before xs ys first second slots _ h none = absurd h
 
 of_set : (known : Known) (words : List (List ℕ)) (before : Outside) (xs ys : List (List ℕ)) → HasItems known words before 1 xs → HasItems known words before 2 ys
     → (slots : List (List Slot)) (why : Status) (after : Outside) → IsAnswered known words false (local_set words xs ys) before slots why after
     → Answered known words before slots why after
 unfolding Answered
-of_set known words before xs ys first second [] why after a = (not_placed known words before xs ys first second why a.0, a.1)
-of_set known words before xs ys first second (chosen ∷ rest) why after a =
-    let placement = is_placement (local_receiver words) xs chosen a.0 in
-    let end = a.1 in
-    let carried : chosen ∷ rest ≡ chosen ∷ [] = ap (λ (more : List (List Slot)). chosen ∷ more) end.3 in
-    let was : WasPlaced known words before (chosen ∷ rest) =
-    record { xs = xs; ys = ys; x_file = first; y_file = second; fact = (chosen, carried, placement) } in
-    (of_end known words before (chosen ∷ rest) (local_text words xs chosen ys) (record_file chosen (local_session words xs chosen ys)) was why end.0, end.1)
+of_set known words before xs ys first second slots why after (inl a) = (not_placed known words before xs ys first second slots why a.0 a.2, a.1)
+of_set known words before xs ys first second slots why after (inr a) =
+    let chosen = a.0 in
+    let end = a.4 in
+    let carried : slots ≡ chosen ∷ [] =
+    last_carries known words false (local_rest words xs ys chosen) before chosen slots a.1 why after
+    (ends_place_none (Some (sha256 (local_session words xs chosen ys))) (says (local_text words xs chosen ys) ∷ keeps words (record_file chosen (local_session words xs chosen ys)))) a.3 end in
+    let was : WasPlaced known words before slots =
+    record { xs = xs; ys = ys; x_file = first; y_file = second; fact = (chosen, carried, is_placement (local_receiver words) xs chosen a.2, a.2.1) } in
+    (of_end known words before slots (local_text words xs chosen ys) (record_file chosen (local_session words xs chosen ys)) was why end.0, end.1)
 
 of_second : (known : Known) (words : List (List ℕ)) (before : Outside) (xs : List (List ℕ)) → HasItems known words before 1 xs → (slots : List (List Slot)) (why : Status) (after : Outside)
     → AtFile known words before 2 file_limit (items_in 2) slots why after (λ ys. IsAnswered known words false (local_set words xs ys) before slots why after)
@@ -222,31 +230,31 @@ answers_local known words before end h = λ fit named.
 -- ---- valid lists, and a set that has a placement
 
 set_is_ready : (words : List (List ℕ)) (files : Files) (before : Outside) (can : CanPlay words files) (ys : List (List ℕ))
-    → IsReady (told files words) before (local_set words (items_of can.x.bytes) ys)
+    → IsReady (told (Some files) words) before (local_set words (items_of can.x.bytes) ys)
 unfolding placing_of
 set_is_ready words files before can ys = ((can.slots, can.placement), λ slots is. tt)
 
 second_is_ready : (words : List (List ℕ)) (files : Files) (before : Outside) (can : CanPlay words files)
-    → IsReady (told files words) before (reads_items 2 (λ ys. local_set words (items_of can.x.bytes) ys))
+    → IsReady (told (Some files) words) before (reads_items 2 (λ ys. local_set words (items_of can.x.bytes) ys))
 unfolding reads_items
 second_is_ready words files before can = (
   can.y.bytes,
-  can.y.there,
+  is_there files words 2 can.y.bytes can.y.there,
   can.y.short,
-  ready_on (told files words) before (items_in 2 can.y.bytes) (items_of can.y.bytes) (λ ys. local_set words (items_of can.x.bytes) ys)
+  ready_on (told (Some files) words) before (items_in 2 can.y.bytes) (items_of can.y.bytes) (λ ys. local_set words (items_of can.x.bytes) ys)
       (items_ready words can.y.bytes 2 can.y.good) (set_is_ready words files before can (items_of can.y.bytes)),
 )
 
-local_is_ready : (words : List (List ℕ)) (files : Files) (before : Outside) (can : CanPlay words files) → IsReady (told files words) before (local_tree words)
+local_is_ready : (words : List (List ℕ)) (files : Files) (before : Outside) (can : CanPlay words files) → IsReady (told (Some files) words) before (local_tree words)
 unfolding reads_items
 local_is_ready words files before can = (
   can.x.bytes,
-  can.x.there,
+  is_there files words 1 can.x.bytes can.x.there,
   can.x.short,
-  ready_on (told files words) before (items_in 1 can.x.bytes) (items_of can.x.bytes) (λ xs. reads_items 2 (λ ys. local_set words xs ys))
+  ready_on (told (Some files) words) before (items_in 1 can.x.bytes) (items_of can.x.bytes) (λ xs. reads_items 2 (λ ys. local_set words xs ys))
       (items_ready words can.x.bytes 1 can.x.good) (second_is_ready words files before can),
 )
 
 pub answers_completed : (known : Known) (words : List (List ℕ)) (before : Outside) (end : End) → Answers known words before end → LocalCompletes words before end
-answers_completed known words before end h = λ files incoming is coming fit named can calm.
-    answers_through known words before end h files incoming Local is coming fit named (local_is_ready words files before can) calm
+answers_completed known words before end h = λ files is fit named can calm.
+    answers_through known words before end h Local fit named (ready_told files words before (local_tree words) is (local_is_ready words files before can)) calm

@@ -3,7 +3,7 @@ use Rattle.std.proofs.Common.{ℕ, List, ap}
 use Rattle.psi_base.specs.Outside.{Known, Outside}
 use Rattle.psi_top.specs.Commands.{Answers}
 use Rattle.psi_top.specs.Make.{MakeWrites}
-use Rattle.psi_top.specs.Tree.{End}
+use Rattle.psi_walk.specs.Tree.{End}
 use Rattle.psi_words.specs.declared.form.Command.TheVariants.{Make}
 use Rattle.psi_top.proofs.Laws.{answers_done}
 

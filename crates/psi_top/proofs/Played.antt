@@ -23,16 +23,18 @@ use Rattle.psi_log.specs.Recording.{RecorderState}
 use Rattle.psi_receiver.specs.Receiving.{hits_of}
 use Rattle.psi_session.specs.Transcripts.{lists_for}
 use Rattle.psi_top.specs.Local.{keeps, local_receiver, local_rest, local_sender, local_session, local_set, local_text}
-use Rattle.psi_top.specs.Receive.{marked, placing_of}
+use Rattle.psi_top.specs.Receive.{marked}
+use Rattle.psi_walk.specs.Placing.{placing_of}
 use Rattle.psi_top.specs.Transcript.{IsPlayed, WentOn, front_for, log_of, writes}
-use Rattle.psi_top.specs.Tree.{Effect, says, puts, closed, ends, with_slots}
-use Rattle.psi_top.specs.Walk.{Does, Follows, Makes, MakesAll, Places, Runs, all_done}
+use Rattle.psi_walk.specs.Tree.{Effect, says, puts, closed, ends, carrying}
+use Rattle.psi_walk.specs.Walk.{Does, Follows, Makes, MakesAll, Places, Runs, all_done}
 use Rattle.psi_top.specs.declared.playing.PlayedSession.{PlayedSession}
 use Rattle.psi_texts.specs.declared.status.Status.{Status}
 use Rattle.psi_top.specs.declared.transcript.SessionTranscript.{SessionTranscript}
 use Rattle.psi_top.proofs.LocalLaws.{local_finds}
 use Rattle.psi_top.proofs.Marks.{length-hits_of, marked_hits}
-use Rattle.psi_top.proofs.Walks.{places_on}
+use Rattle.psi_walk.proofs.Carried.{places_last}
+use Rattle.psi_walk.proofs.Unplaced.{ends_place_none}
 
 -- ---- the transcript
 
@@ -203,9 +205,11 @@ pub played_on : (known : Known) (words : List (List ℕ)) (xs : List (List ℕ))
     (before after : Outside) (result : Result (List ℕ) Status) → receiver ≡ local_receiver words → sender ≡ local_sender words
     → Places 1 (placing_of receiver xs) (Ok slots) → IsPlacementOf receiver.stash receiver.key (bins_for (length xs)) xs slots
     → IsPlayed receiver sender xs slots ys (front_for words slots) played → DoesRest known words xs played before result after
-    → Runs known words (local_set words xs ys) before (with_slots slots (closed result after))
+    → Runs known words (local_set words xs ys) before (carrying slots (closed result after))
 played_on known words xs slots ys receiver sender played before after result of_receiver of_sender places placement is rest =
-    places_on known words 1 (placing_of (local_receiver words) xs) (λ slots. local_rest words xs ys slots) before slots (closed result after)
+    places_last known words 1 (placing_of (local_receiver words) xs) (λ slots. local_rest words xs ys slots) before slots (closed result after)
+    (ends_place_none (Some (sha256 (local_session words xs slots ys)))
+    (says (local_text words xs slots ys) ∷ keeps words (record_file slots (local_session words xs slots ys))))
     (subst (λ (r : ReceiverDeal). Places 1 (placing_of r xs) (Ok slots)) of_receiver places)
     (rest_on known words xs slots ys played before after result
     (subst (λ (r : ReceiverDeal). IsPlacementOf r.stash r.key (bins_for (length xs)) xs slots) of_receiver placement)

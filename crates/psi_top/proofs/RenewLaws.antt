@@ -9,21 +9,21 @@ use Rattle.psi_deal.specs.declared.old_files.OldDeal.{OldDeal}
 use Rattle.psi_deal.specs.declared.old_files.OldDeal.TheVariants.{Receiver, Sender}
 use Rattle.psi_deal.proofs.OldFaultless.{old_file_spells}
 use Rattle.psi_top.specs.Commands.{Answers}
-use Rattle.psi_top.specs.Due.{told}
-use Rattle.psi_top.specs.Files.{old_deal_in, reads_old}
-use Rattle.psi_top.specs.JudgedFiles.{HasOldDeal}
-use Rattle.psi_top.specs.Promises.{IsAnswered, IsOfEffect, IsOfEnd, IsReady, IsSilent, IsUnread, Leaves}
+use Rattle.psi_walk.specs.Due.{told}
+use Rattle.psi_walk.specs.Files.{old_deal_in, reads_old}
+use Rattle.psi_walk.specs.JudgedFiles.{HasOldDeal}
+use Rattle.psi_walk.specs.Promises.{IsAnswered, IsFailedEffect, IsOfEnd, IsReady, IsSilent, IsUnread, Leaves, WriteFailed}
 use Rattle.psi_top.specs.Renew.{renew_tree}
 use Rattle.psi_top.specs.RenewPromises.{CanRenew, IsOfRenew, RenewAnswers, RenewCompletes, RenewWrites, WroteRenewed}
-use Rattle.psi_top.specs.Tree.{Effect, puts, ends, End}
+use Rattle.psi_walk.specs.Tree.{Effect, puts, ends, End}
 use Rattle.psi_words.specs.declared.form.Command.TheVariants.{Renew}
 use Rattle.psi_texts.specs.declared.status.Status.{Status}
 use Rattle.psi_texts.specs.declared.status.Status.TheVariants as status
-use Rattle.psi_top.proofs.Answered.{follows_answers}
-use Rattle.psi_top.proofs.JudgedFiles.{AtFile, unread, wanting, refused, taken_on, answered_old, has_bad_old, has_old, left_old, old_bad}
+use Rattle.psi_walk.proofs.Answered.{follows_answers}
+use Rattle.psi_walk.proofs.JudgedFiles.{AtFile, unread, wanting, refused, taken_on, answered_old, has_bad_old, has_old, left_old, old_bad}
 use Rattle.psi_top.proofs.Laws.{answers_done, answers_through, follows_told}
-use Rattle.psi_top.proofs.SendLaws.{ready_on}
-use Rattle.psi_top.proofs.Unplaced.{PlacesNone, none_is_placed, old_places_none}
+use Rattle.psi_walk.proofs.Ready.{is_there, ready_on, ready_told}
+use Rattle.psi_walk.proofs.Unplaced.{PlacesNone, none_is_placed, old_places_none}
 
 -- ---- what a run that is done left
 
@@ -38,7 +38,7 @@ answers_renewed known words before end h = λ named done. renew_leaves known wor
 -- ---- what `renew` may answer
 
 -- the file that is due was not read
-not_read : (known : Known) (words : List (List ℕ)) (before : Outside) (why : Status) (after : Outside) → IsUnread 1 file_limit why → RenewAnswers known words before why after
+not_read : (known : Known) (words : List (List ℕ)) (before : Outside) (why : Status) (after : Outside) → IsUnread known words 1 file_limit why → RenewAnswers known words before why after
 not_read known words before (status.FileFault place) after h = inl h
 not_read known words before (status.TooLong place taken) after h = h
 not_read known words before status.NoMemory after h = tt
@@ -46,24 +46,24 @@ not_read known words before _ after h = absurd h
 
 -- the new file is all that is written at the end
 of_end : (known : Known) (words : List (List ℕ)) (before : Outside) (deal : OldDeal) (bytes : List ℕ) → HasOldDeal known words before 1 deal
-    → (why : Status) (after : Outside) → (why ≡ status.Done → RenewAnswers known words before why after) → IsOfEnd false why (puts 2 bytes ∷ [])
+    → (why : Status) (after : Outside) → (why ≡ status.Done → RenewAnswers known words before why after) → IsOfEnd known words false why (puts 2 bytes ∷ [])
     → RenewAnswers known words before why after
 of_end known words before deal bytes has status.Done after done h = done refl
 of_end known words before deal bytes has status.NoMemory after done h = tt
-of_end known words before deal bytes has (status.FileFault place) after done h = inr (the_file h.0 h.1 h.2 h.3, (deal, has))
+of_end known words before deal bytes has (status.FileFault place) after done h = let failed = the_file h.0 h.1 h.2 h.3 in inr (failed.0, failed.1, (deal, has))
   where
-    the_file : (at : ℕ) (effect : Effect) → slice_get (puts 2 bytes ∷ []) at ≡ Some effect → IsOfEffect (status.FileFault place) effect → place ≡ 2
+    the_file : (at : ℕ) (effect : Effect) → slice_get (puts 2 bytes ∷ []) at ≡ Some effect → IsFailedEffect known words (status.FileFault place) effect → (place ≡ 2) × WriteFailed known words place
     the_file zero effect e f =
         let same : effect ≡ puts 2 bytes = cc e in
-        let g : IsOfEffect (status.FileFault place) (puts 2 bytes) = subst (IsOfEffect (status.FileFault place)) same f in
+        let g : IsFailedEffect known words (status.FileFault place) (puts 2 bytes) = subst (IsFailedEffect known words (status.FileFault place)) same f in
         g
     the_file (suc at) effect e f = cc e
 of_end known words before deal bytes has status.PrintFault after done h = absurd (no_text h.0 h.1 h.2 h.3)
   where
-    no_text : (at : ℕ) (effect : Effect) → slice_get (puts 2 bytes ∷ []) at ≡ Some effect → IsOfEffect status.PrintFault effect → ⊥
+    no_text : (at : ℕ) (effect : Effect) → slice_get (puts 2 bytes ∷ []) at ≡ Some effect → IsFailedEffect known words status.PrintFault effect → ⊥
     no_text zero effect e f =
         let same : effect ≡ puts 2 bytes = cc e in
-        let g : IsOfEffect status.PrintFault (puts 2 bytes) = subst (IsOfEffect status.PrintFault) same f in
+        let g : IsFailedEffect known words status.PrintFault (puts 2 bytes) = subst (IsFailedEffect known words status.PrintFault) same f in
         g
     no_text (suc at) effect e f = cc e
 of_end known words before deal bytes has _ after done h = absurd h.3
@@ -105,15 +105,15 @@ old_ready word deal bytes file =
     let spells = old_file_spells deal bytes file in
     rw (spells.0, spells.1) refl
 
-renew_is_ready : (words : List (List ℕ)) (files : Files) (before : Outside) (can : CanRenew words files) → IsReady (told files words) before renew_tree
+renew_is_ready : (words : List (List ℕ)) (files : Files) (before : Outside) (can : CanRenew words files) → IsReady (told (Some files) words) before renew_tree
 unfolding reads_old
 renew_is_ready words files before can = (
   can.bytes,
-  can.there,
+  is_there files words 1 can.bytes can.there,
   short_old can.deal can.bytes can.old,
-  ready_on (told files words) before (old_deal_in 1 can.bytes) can.deal (λ deal. ends None (puts 2 (renewed deal) ∷ [])) (old_ready 1 can.deal can.bytes can.old) tt,
+  ready_on (told (Some files) words) before (old_deal_in 1 can.bytes) can.deal (λ deal. ends None (puts 2 (renewed deal) ∷ [])) (old_ready 1 can.deal can.bytes can.old) tt,
 )
 
 pub answers_through_renew : (known : Known) (words : List (List ℕ)) (before : Outside) (end : End) → Answers known words before end → RenewCompletes words before end
-answers_through_renew known words before end h = λ files incoming is coming fit named can calm.
-    answers_through known words before end h files incoming Renew is coming fit named (renew_is_ready words files before can) calm
+answers_through_renew known words before end h = λ files is fit named can calm.
+    answers_through known words before end h Renew fit named (ready_told files words before renew_tree is (renew_is_ready words files before can)) calm

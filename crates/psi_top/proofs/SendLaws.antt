@@ -9,7 +9,7 @@ use Rattle.psi_spec.specs.Frames.{layout, sender_hello}
 use Rattle.psi_spec.specs.Items.{first_bad, items_of}
 use Rattle.psi_spec.specs.Limits.{file_limit, rows_for}
 use Rattle.psi_spec.specs.Placement.{Slot}
-use Rattle.psi_base.specs.Outside.{Known, Outside, Files, Starved}
+use Rattle.psi_base.specs.Outside.{Known, Outside, Files, Starved, opening}
 use Rattle.psi_deal.specs.BadDeals.{bad_deal}
 use Rattle.psi_frames.specs.declared.expect.Expect.TheVariants as expect
 use Rattle.psi_frames.specs.declared.turns.EndFault.TheVariants as peer
@@ -20,22 +20,23 @@ use Rattle.psi_sender.specs.Script.{count_in, opens_columns}
 use Rattle.psi_sender.specs.Laws.{IsStreamFor, sender_dialogue}
 use Rattle.psi_sender.proofs.Serving.{serves_nothing_else, serves_streams}
 use Rattle.psi_top.specs.Commands.{Answers}
-use Rattle.psi_top.specs.Files.{items_in, sender_in, reads_items, reads_sender}
-use Rattle.psi_top.specs.JudgedFiles.{HasItems, HasSenderDeal}
-use Rattle.psi_top.specs.Promises.{IsAnswered, IsNotTalked, IsOfEnd, IsReady, IsSilent, IsUnread, Leaves}
-use Rattle.psi_top.specs.Send.{send_rest, send_tree}
-use Rattle.psi_top.specs.SendPromises.{AfterItems, CanServe, IsEarlyOrCounted, IsOfSend, SendAnswers, SendServes, Served, WithFiles, opened}
-use Rattle.psi_top.specs.Tree.{Effect, Tree, decides, talks, ends, End}
+use Rattle.psi_walk.specs.Files.{items_in, sender_in, reads_items, reads_sender}
+use Rattle.psi_walk.specs.JudgedFiles.{HasItems, HasSenderDeal}
+use Rattle.psi_walk.specs.Promises.{IsAnswered, IsNotTalked, IsOfEnd, IsReady, IsSilent, IsUnopened, IsUnread, Leaves}
+use Rattle.psi_top.specs.Send.{receiver_link, send_rest, send_tree}
+use Rattle.psi_top.specs.SendPromises.{AfterItems, CanServe, IsEarlyOrCounted, IsOfSend, SendAnswers, SendServes, Served, WithFiles, listening}
+use Rattle.psi_walk.specs.Tree.{Effect, Tree, decides, talks, ends, End}
 use Rattle.psi_words.specs.declared.form.Command.TheVariants.{Send}
 use Rattle.psi_texts.specs.declared.status.Status.{Status}
 use Rattle.psi_texts.specs.declared.status.Status.TheVariants as status
 use Rattle.psi_spec.proofs.DealFiles.{length-sender_bytes, sender_files_read_back}
 use Rattle.psi_deal.proofs.Faultless.{good_from_none, good_sender, none_from_good, sender_file_is_good}
-use Rattle.psi_top.specs.Due.{Contents, told}
-use Rattle.psi_top.proofs.Answered.{follows_answers}
-use Rattle.psi_top.proofs.JudgedFiles.{AtFile, unread, wanting, refused, taken_on, answered_items, answered_sender, has_bad_line, has_bad_sender, has_items, has_sender, items_bad, left_items, left_sender, sender_bad}
+use Rattle.psi_walk.specs.Due.{Contents, told}
+use Rattle.psi_walk.proofs.Answered.{follows_answers}
+use Rattle.psi_walk.proofs.JudgedFiles.{AtFile, unread, wanting, refused, taken_on, answered_items, answered_sender, has_bad_line, has_bad_sender, has_items, has_sender, items_bad, left_items, left_sender, sender_bad}
 use Rattle.psi_top.proofs.Laws.{answers_done, answers_through, follows_told}
-use Rattle.psi_top.proofs.Unplaced.{PlacesNone, items_place_none, none_is_placed, sender_places_none}
+use Rattle.psi_walk.proofs.Ready.{is_there, items_ready, ready_on, ready_told}
+use Rattle.psi_walk.proofs.Unplaced.{PlacesNone, items_place_none, none_is_placed, sender_places_none}
 
 -- ---- the session
 
@@ -45,10 +46,10 @@ sender_deal_of known words before word deal h =
     subst IsSenderDeal (sym h.spelled) (good_sender h.bytes h.read.are_bytes (good_from_none 1 sender_size h.bytes h.good))
 
 -- a session that read well took a receiver's stream, and sent the sender's for it
-served_well : (known : Known) (before : Outside) (ys : List (List ℕ)) (deal : SenderDeal) (taken : List ℕ) (after : Outside) → IsSenderDeal deal
+served_well : (known : Known) (words : List (List ℕ)) (before : Outside) (ys : List (List ℕ)) (deal : SenderDeal) (taken : List ℕ) (after : Outside) → IsSenderDeal deal
     → WereTaken known before.incoming taken → ReadSo (sender_dialogue deal ys) before.incoming taken (good taken)
-    → after ≡ talked (opened before) ((sender_dialogue deal ys).owes taken) taken → Served known before ys deal after
-served_well known before ys deal taken after is were read left =
+    → after ≡ talked (listening words before) ((sender_dialogue deal ys).owes taken) taken → Served known words before ys deal after
+served_well known words before ys deal taken after is were read left =
     let stream = serves_nothing_else deal ys taken taken is were.are_bytes read.taken_so_far in
     let serves = serves_streams deal ys stream.0 stream.1 taken is stream.2 in
     record {
@@ -57,35 +58,35 @@ served_well known before ys deal taken after is were read left =
       taken = taken;
       stream = stream.2;
       were_taken = were;
-      left = left ∙ ap (λ (bytes : List ℕ). talked (opened before) bytes taken) serves.sends;
+      left = left ∙ ap (λ (bytes : List ℕ). talked (listening words before) bytes taken) serves.sends;
     }
 
-send_leaves : (known : Known) (words : List (List ℕ)) (before : Outside) (end : End) → Leaves known words send_tree before end
-    → WithFiles known words before (λ ys deal. Served known before ys deal end.left)
+send_leaves : (known : Known) (words : List (List ℕ)) (before : Outside) (end : End) → Leaves known words (send_tree words) before end
+    → WithFiles known words before (λ ys deal. Served known words before ys deal end.left)
 send_leaves known words before end h =
-    let y = left_items known words 2 (λ ys. reads_sender 3 (λ deal. send_rest ys deal)) before end h in
-    let s = left_sender known words 3 (λ deal. send_rest y.0 deal) before end y.2 in
+    let y = left_items known words 2 (λ ys. reads_sender 3 (λ deal. send_rest words ys deal)) before end h in
+    let s = left_sender known words 3 (λ deal. send_rest words y.0 deal) before end y.2 in
     let session = s.2 in
     record {
       ys = y.0;
       deal = s.0;
       y_file = y.1;
       s_file = s.1;
-      fact = served_well known before y.0 s.0 session.0 end.left (sender_deal_of known words before 3 s.0 s.1) session.1 session.2 (ap (λ (d : End). d.left) session.3);
+      fact = served_well known words before y.0 s.0 session.0 end.left (sender_deal_of known words before 3 s.0 s.1) session.1 session.2 (ap (λ (d : End). d.left) session.3);
     }
 
 -- ---- what `send` may answer
 
-first_unread : (known : Known) (words : List (List ℕ)) (before : Outside) (why : Status) (after : Outside) → IsUnread 2 file_limit why → IsSilent before after
+first_unread : (known : Known) (words : List (List ℕ)) (before : Outside) (why : Status) (after : Outside) → IsUnread known words 2 file_limit why → IsSilent before after
     → SendAnswers known words before why after
-first_unread known words before (status.FileFault place) after h quiet = (inl h, quiet)
+first_unread known words before (status.FileFault place) after h quiet = (inl h.0, h.1, quiet)
 first_unread known words before (status.TooLong place taken) after h quiet = (inl h.0, h.1, quiet)
 first_unread known words before status.NoMemory after h quiet = (inl quiet.outgoing, inl quiet)
 first_unread known words before _ after h quiet = absurd h
 
 second_unread : (known : Known) (words : List (List ℕ)) (before : Outside) → AfterItems known words before → (why : Status) (after : Outside)
-    → IsUnread 3 file_limit why → IsSilent before after → SendAnswers known words before why after
-second_unread known words before items (status.FileFault place) after h quiet = (inr (h, items), quiet)
+    → IsUnread known words 3 file_limit why → IsSilent before after → SendAnswers known words before why after
+second_unread known words before items (status.FileFault place) after h quiet = (inr (h.0, items), h.1, quiet)
 second_unread known words before items (status.TooLong place taken) after h quiet = (inr (h.0, items), h.1, quiet)
 second_unread known words before items status.NoMemory after h quiet = (inl quiet.outgoing, inl quiet)
 second_unread known words before items _ after h quiet = absurd h
@@ -107,12 +108,12 @@ sent_none None bytes n none = refl
 sent_none (Some xs) bytes n none =
     let zero : n ≡ 0 = omega arith in ap Some (ap (λ (k : ℕ). xs ++ take k bytes) zero ∙ append-nil xs)
 
-early_or_counted : (known : Known) (before : Outside) (ys : List (List ℕ)) (deal : SenderDeal) (after : Outside)
-    → Talks known (sender_dialogue deal ys) (opened before) (Err peer.NoMemory) after → IsEarlyOrCounted before after
-early_or_counted known before ys deal after h = by_why h.why
+early_or_counted : (known : Known) (words : List (List ℕ)) (before : Outside) (ys : List (List ℕ)) (deal : SenderDeal) (after : Outside)
+    → Talks known (sender_dialogue deal ys) (listening words before) (Err peer.NoMemory) after → IsEarlyOrCounted before after
+early_or_counted known words before ys deal after h = by_why h.why
   where
-    by_why : Starved (talked (opened before) (take h.sent ((sender_dialogue deal ys).owes h.taken)) h.taken) after
-        ⊎ ((h.sent ≤ length ((sender_dialogue deal ys).owes [])) × (after ≡ talked (opened before) (take h.sent ((sender_dialogue deal ys).owes h.taken)) h.taken))
+    by_why : Starved (talked (listening words before) (take h.sent ((sender_dialogue deal ys).owes h.taken)) h.taken) after
+        ⊎ ((h.sent ≤ length ((sender_dialogue deal ys).owes [])) × (after ≡ talked (listening words before) (take h.sent ((sender_dialogue deal ys).owes h.taken)) h.taken))
         → IsEarlyOrCounted before after
     by_why (inl starved) = inr starved.rose
     by_why (inr early) =
@@ -121,15 +122,16 @@ early_or_counted known before ys deal after h = by_why h.why
 
 of_session : (known : Known) (words : List (List ℕ)) (before : Outside) (ys : List (List ℕ)) (deal : SenderDeal)
     → HasItems known words before 2 ys → HasSenderDeal known words before 3 deal → (why : Status) (after : Outside)
-    → IsNotTalked known (sender_dialogue deal ys) (opened before) why after → SendAnswers known words before why after
+    → IsNotTalked known (sender_dialogue deal ys) (listening words before) why after → SendAnswers known words before why after
 of_session known words before ys deal y_file s_file (status.BadFrame frame) after h = record { ys = ys; deal = deal; y_file = y_file; s_file = s_file; fact = h }
 of_session known words before ys deal y_file s_file (status.PeerEnded offset) after h = record { ys = ys; deal = deal; y_file = y_file; s_file = s_file; fact = h }
 of_session known words before ys deal y_file s_file status.LinkFault after h = record { ys = ys; deal = deal; y_file = y_file; s_file = s_file; fact = inr h }
 of_session known words before ys deal y_file s_file status.NoMemory after (inl e) =
-    let quiet : IsSilent before after = subst (λ (o : Outside). IsSilent before o) (sym e) (record { incoming = refl; outgoing = refl }) in
-    (inl quiet.outgoing, inl quiet)
+    let quiet : IsSilent (listening words before) after =
+    subst (λ (o : Outside). IsSilent (listening words before) o) (sym e) (record { incoming = refl; outgoing = refl; opened = refl }) in
+    (inl quiet.outgoing, inr (record { ys = ys; deal = deal; y_file = y_file; s_file = s_file; fact = inl quiet }))
 of_session known words before ys deal y_file s_file status.NoMemory after (inr h) =
-    (early_or_counted known before ys deal after h, inr (record { ys = ys; deal = deal; y_file = y_file; s_file = s_file; fact = h }))
+    (early_or_counted known words before ys deal after h, inr (record { ys = ys; deal = deal; y_file = y_file; s_file = s_file; fact = inr h }))
 of_session known words before ys deal y_file s_file _ after h = absurd h
 
 -- once the session is done, so is the run
@@ -137,7 +139,7 @@ none_there : (at : ℕ) (effect : Effect) → slice_get [] at ≡ Some effect �
 none_there at effect e = cc e
 
 of_end : (known : Known) (words : List (List ℕ)) (before : Outside) (why : Status) (after : Outside)
-    → (why ≡ status.Done → SendAnswers known words before why after) → IsOfEnd true why [] → SendAnswers known words before why after
+    → (why ≡ status.Done → SendAnswers known words before why after) → IsOfEnd known words true why [] → SendAnswers known words before why after
 of_end known words before status.Done after done h = done refl
 of_end known words before status.NoMemory after done (inl e) = absurd (true≢false e)
 of_end known words before status.NoMemory after done (inr h) = absurd (none_there h.0 h.1 h.2)
@@ -146,22 +148,27 @@ of_end known words before _ after done h = absurd (none_there h.0 h.1 h.2)
 of_talk : (known : Known) (words : List (List ℕ)) (before : Outside) (ys : List (List ℕ)) (deal : SenderDeal)
     → HasItems known words before 2 ys → HasSenderDeal known words before 3 deal → (slots : List (List Slot)) (why : Status) (after : Outside)
     → (why ≡ status.Done → SendAnswers known words before why after)
-    → IsAnswered known words false (talks (sender_dialogue deal ys) (λ taken. ends None [])) (opened before) slots why after → SendAnswers known words before why after
+    → IsAnswered known words false (talks (sender_dialogue deal ys) (λ taken. ends None [])) (listening words before) slots why after → SendAnswers known words before why after
 of_talk known words before ys deal y_file s_file slots why after done (inl h) = of_session known words before ys deal y_file s_file why after h.0
 of_talk known words before ys deal y_file s_file slots why after done (inr h) = of_end known words before why after done h.3.0
+
+unopened_answers : (known : Known) (words : List (List ℕ)) (before : Outside) (ys : List (List ℕ)) (deal : SenderDeal)
+    → HasItems known words before 2 ys → HasSenderDeal known words before 3 deal → (why : Status) (after : Outside)
+    → IsUnopened known (receiver_link words) why → IsSilent before after → SendAnswers known words before why after
+unopened_answers known words before ys deal y_file s_file status.LinkFault after h quiet = record { ys = ys; deal = deal; y_file = y_file; s_file = s_file; fact = inl (h, quiet) }
+unopened_answers known words before ys deal y_file s_file status.NoMemory after h quiet = (inl quiet.outgoing, inl quiet)
+unopened_answers known words before ys deal y_file s_file _ after h quiet = absurd h
 
 of_rest : (known : Known) (words : List (List ℕ)) (before : Outside) (ys : List (List ℕ)) (deal : SenderDeal)
     → HasItems known words before 2 ys → HasSenderDeal known words before 3 deal → (slots : List (List Slot)) (why : Status) (after : Outside)
     → (why ≡ status.Done → SendAnswers known words before why after)
-    → IsAnswered known words false (send_rest ys deal) before slots why after → SendAnswers known words before why after
-of_rest known words before ys deal y_file s_file slots why after done (inl (inl s, quiet, none)) =
-    subst (λ (x : Status). SendAnswers known words before x after) (sym s) (record { ys = ys; deal = deal; y_file = y_file; s_file = s_file; fact = inl quiet })
-of_rest known words before ys deal y_file s_file slots why after done (inl (inr s, quiet, none)) = wanted known words before why after s quiet
+    → IsAnswered known words false (send_rest words ys deal) before slots why after → SendAnswers known words before why after
+of_rest known words before ys deal y_file s_file slots why after done (inl h) = unopened_answers known words before ys deal y_file s_file why after h.0 h.1
 of_rest known words before ys deal y_file s_file slots why after done (inr h) = of_talk known words before ys deal y_file s_file slots why after done h
 
 of_second : (known : Known) (words : List (List ℕ)) (before : Outside) (ys : List (List ℕ)) → HasItems known words before 2 ys → (slots : List (List Slot)) (why : Status) (after : Outside)
     → (why ≡ status.Done → SendAnswers known words before why after)
-    → AtFile known words before 3 file_limit (sender_in 3) slots why after (λ deal. IsAnswered known words false (send_rest ys deal) before slots why after) → SendAnswers known words before why after
+    → AtFile known words before 3 file_limit (sender_in 3) slots why after (λ deal. IsAnswered known words false (send_rest words ys deal) before slots why after) → SendAnswers known words before why after
 of_second known words before ys y_file slots why after done (unread h quiet none) = second_unread known words before (ys, y_file) why after h quiet
 of_second known words before ys y_file slots why after done (wanting s quiet none) = wanted known words before why after s quiet
 of_second known words before ys y_file slots why after done (refused bytes read e quiet none) =
@@ -172,7 +179,7 @@ of_second known words before ys y_file slots why after done (taken_on bytes deal
     of_rest known words before ys deal y_file (has_sender known words before 3 bytes deal read e) slots why after done a
 
 of_first : (known : Known) (words : List (List ℕ)) (before : Outside) (slots : List (List Slot)) (why : Status) (after : Outside) → (why ≡ status.Done → SendAnswers known words before why after)
-    → AtFile known words before 2 file_limit (items_in 2) slots why after (λ ys. IsAnswered known words false (reads_sender 3 (λ deal. send_rest ys deal)) before slots why after)
+    → AtFile known words before 2 file_limit (items_in 2) slots why after (λ ys. IsAnswered known words false (reads_sender 3 (λ deal. send_rest words ys deal)) before slots why after)
     → SendAnswers known words before why after
 of_first known words before slots why after done (unread h quiet none) = first_unread known words before why after h quiet
 of_first known words before slots why after done (wanting s quiet none) = wanted known words before why after s quiet
@@ -181,28 +188,24 @@ of_first known words before slots why after done (refused bytes read e quiet non
     subst (λ (x : Status). SendAnswers known words before x after) (sym bad.2) (refl, has_bad_line known words before 2 bytes bad.0 read bad.1, quiet)
 of_first known words before slots why after done (taken_on bytes ys read e a) =
     of_second known words before ys (has_items known words before 2 bytes ys read e) slots why after done
-    (answered_sender known words 3 (λ deal. send_rest ys deal) before slots why after a)
+    (answered_sender known words 3 (λ deal. send_rest words ys deal) before slots why after a)
 
-send_places_none : PlacesNone send_tree
+send_places_none : (words : List (List ℕ)) → PlacesNone (send_tree words)
 unfolding PlacesNone
-send_places_none =
-    items_place_none 2 (λ ys. reads_sender 3 (λ deal. send_rest ys deal)) (λ ys. sender_places_none 3 (λ deal. send_rest ys deal) (λ deal. λ taken. tt))
+send_places_none words =
+    items_place_none 2 (λ ys. reads_sender 3 (λ deal. send_rest words ys deal)) (λ ys. sender_places_none 3 (λ deal. send_rest words ys deal) (λ deal. λ taken. tt))
 
 pub answers_send : (known : Known) (words : List (List ℕ)) (before : Outside) (end : End) → Answers known words before end → IsOfSend known words before end
 answers_send known words before end h = λ fit named.
     let follows = follows_told known words before end h Send fit named in
-    let a = follows_answers known words false send_tree before end follows in (
+    let a = follows_answers known words false (send_tree words) before end follows in (
       of_first known words before end.placed end.status end.left
           (λ done. subst (λ (x : Status). SendAnswers known words before x end.left) (sym done) (send_leaves known words before end (answers_done known words before end h Send named done)))
-          (answered_items known words 2 (λ ys. reads_sender 3 (λ deal. send_rest ys deal)) before end.placed end.status end.left a),
-      none_is_placed known words false send_tree before end.placed end.status end.left send_places_none a,
+          (answered_items known words 2 (λ ys. reads_sender 3 (λ deal. send_rest words ys deal)) before end.placed end.status end.left a),
+      none_is_placed known words false (send_tree words) before end.placed end.status end.left (send_places_none words) a,
     )
 
 -- ---- an honest peer is served
-
-pub items_ready : (words : List (List ℕ)) (bytes : List ℕ) (word : ℕ) → first_bad bytes ≡ None → items_in word bytes ≡ Ok (items_of bytes)
-unfolding items_in
-items_ready words bytes word none = rw none refl
 
 pub sender_ready : (word : ℕ) (deal : SenderDeal) → IsSenderDeal deal → sender_in word (sender_bytes deal) ≡ Ok deal
 unfolding sender_in
@@ -210,42 +213,37 @@ sender_ready word deal is =
     let none : bad_deal 1 sender_size (sender_bytes deal) ≡ None = none_from_good 1 sender_size (sender_bytes deal) (sender_file_is_good deal is) in
     rw (none, sender_files_read_back deal is) refl
 
-session_ready : (words : List (List ℕ)) (contents : Contents) (before : Outside) (incoming : List ℕ) (ys : List (List ℕ)) (deal : SenderDeal) (stream rest : List ℕ)
+session_ready : (words : List (List ℕ)) (contents : Option Contents) (before : Outside) (incoming : List ℕ) (ys : List (List ℕ)) (deal : SenderDeal) (stream rest : List ℕ)
     (count : ℕ) (columns : List (List ℕ)) → before.incoming ≡ Some incoming → incoming ≡ stream ++ rest → IsSenderDeal deal → IsStreamFor deal count columns stream
-    → IsReady contents before (send_rest ys deal)
+    → IsReady contents before (send_rest words ys deal)
 session_ready words contents before incoming ys deal stream rest count columns told begins is honest =
     (incoming, stream, told, ap (sender_dialogue deal ys).reads_as begins ∙ (serves_streams deal ys count columns stream is honest).reads rest, tt)
 
 short_deal : (deal : SenderDeal) → IsSenderDeal deal → length (sender_bytes deal) ≤ file_limit
 short_deal deal is = omega (arith, length-sender_bytes deal is)
 
-pub ready_on : {A : Type 0} (contents : Contents) (before : Outside) (due : Result A Status) (x : A) (next : A → Tree) → due ≡ Ok x
-    → IsReady contents before (next x) → IsReady contents before (decides due next)
-unfolding decides
-ready_on contents before due x next e r = subst (λ (d : Result _ Status). IsReady contents before (decides d next)) (sym e) r
-
 sender_is_ready : (words : List (List ℕ)) (files : Files) (before : Outside) (incoming : List ℕ) (ys : List (List ℕ)) (can : CanServe words files incoming)
-    → before.incoming ≡ Some incoming → IsReady (told files words) before (reads_sender 3 (λ deal. send_rest ys deal))
+    → before.incoming ≡ Some incoming → IsReady (told (Some files) words) before (reads_sender 3 (λ deal. send_rest words ys deal))
 unfolding reads_sender
 sender_is_ready words files before incoming ys can coming = (
   sender_bytes can.deal,
-  can.s_there,
+  is_there files words 3 (sender_bytes can.deal) can.s_there,
   short_deal can.deal can.deal_is,
-  ready_on (told files words) before (sender_in 3 (sender_bytes can.deal)) can.deal (λ deal. send_rest ys deal) (sender_ready 3 can.deal can.deal_is)
-      (session_ready words (told files words) before incoming ys can.deal can.stream can.rest can.count can.columns coming can.begins can.deal_is can.honest),
+  ready_on (told (Some files) words) before (sender_in 3 (sender_bytes can.deal)) can.deal (λ deal. send_rest words ys deal) (sender_ready 3 can.deal can.deal_is)
+      (session_ready words (told (Some files) words) before incoming ys can.deal can.stream can.rest can.count can.columns coming can.begins can.deal_is can.honest),
 )
 
 send_is_ready : (words : List (List ℕ)) (files : Files) (before : Outside) (incoming : List ℕ) (can : CanServe words files incoming)
-    → before.incoming ≡ Some incoming → IsReady (told files words) before send_tree
+    → before.incoming ≡ Some incoming → IsReady (told (Some files) words) before (send_tree words)
 unfolding reads_items
 send_is_ready words files before incoming can coming = (
   can.y_bytes,
-  can.y_there,
+  is_there files words 2 can.y_bytes can.y_there,
   can.y_short,
-  ready_on (told files words) before (items_in 2 can.y_bytes) (items_of can.y_bytes) (λ ys. reads_sender 3 (λ deal. send_rest ys deal)) (items_ready words can.y_bytes 2 can.y_good)
-      (sender_is_ready words files before incoming (items_of can.y_bytes) can coming),
+  ready_on (told (Some files) words) before (items_in 2 can.y_bytes) (items_of can.y_bytes) (λ ys. reads_sender 3 (λ deal. send_rest words ys deal))
+      (items_ready words can.y_bytes 2 can.y_good) (sender_is_ready words files before incoming (items_of can.y_bytes) can coming),
 )
 
 pub answers_serve : (known : Known) (words : List (List ℕ)) (before : Outside) (end : End) → Answers known words before end → SendServes words before end
 answers_serve known words before end h = λ files incoming is coming fit named can calm.
-    answers_through known words before end h files incoming Send is coming fit named (send_is_ready words files before incoming can coming) calm
+    answers_through known words before end h Send fit named (ready_told files words before (send_tree words) is (send_is_ready words files before incoming can coming)) calm

@@ -22,15 +22,17 @@ use Rattle.psi_spec.proofs.StreamSizes.{receiver_streams_have_sizes, sender_stre
 use Rattle.psi_base.specs.Outside.{Known, Outside}
 use Rattle.psi_receiver.specs.Laws.{own_stream}
 use Rattle.psi_words.specs.Words.{seed_of, word_at}
-use Rattle.psi_top.specs.Receive.{marked, placing_of}
+use Rattle.psi_top.specs.Receive.{marked}
+use Rattle.psi_walk.specs.Placing.{placing_of}
 use Rattle.psi_top.specs.Transcript.{IsPlayed, receiver_size, sender_size}
-use Rattle.psi_top.specs.Tree.{says, closed, ends, with_slots}
+use Rattle.psi_walk.specs.Tree.{says, closed, ends, carrying}
 use Rattle.psi_top.specs.Trial.{measured, summary_text, trial_receiver, trial_rest, trial_sender, trial_session, trial_set, trial_setup, trial_summary, trial_text, trial_to_receiver, trial_to_sender}
-use Rattle.psi_top.specs.Walk.{Places, Runs}
+use Rattle.psi_walk.specs.Walk.{Places, Runs}
 use Rattle.psi_top.specs.declared.playing.PlayedSession.{PlayedSession}
 use Rattle.psi_texts.specs.declared.status.Status.{Status}
 use Rattle.psi_top.proofs.Played.{length-played, played_items}
-use Rattle.psi_top.proofs.Walks.{places_on}
+use Rattle.psi_walk.proofs.Carried.{places_last}
+use Rattle.psi_walk.proofs.Unplaced.{ends_place_none}
 
 -- ---- the pair of deals
 
@@ -153,7 +155,7 @@ record WasTried (words : List (List ℕ)) (xs : List (List ℕ)) (slots : List S
 tried_on : (known : Known) (words : List (List ℕ)) (xs : List (List ℕ)) (slots : List Slot) (ys : List (List ℕ)) (front : Option (List ℕ)) (played : PlayedSession) (text : List ℕ)
     (before after : Outside) (result : Result (List ℕ) Status) → length xs ≤ limit_items → length ys ≤ limit_items
     → WasTried words xs slots ys (trial_receiver words) (trial_sender words) front played text → DoesText known words text played before result after
-    → Runs known words (trial_set words xs ys) before (with_slots slots (closed result after))
+    → Runs known words (trial_set words xs ys) before (carrying slots (closed result after))
 tried_on known words xs slots ys front played text before after result few few' was rest =
     let bytes = session_bytes (trial_receiver words) (trial_sender words) (placed_of xs slots) ys in
     let said : text ≡ trial_text words xs slots ys =
@@ -161,7 +163,8 @@ tried_on known words xs slots ys front played text before after result few few' 
     let ran : Runs known words (trial_rest words xs ys slots) before (closed result after) =
     subst (λ (wire : List ℕ). Runs known words (ends (Some (sha256 wire)) (says (trial_text words xs slots ys) ∷ [])) before (closed result after)) (same_session words xs slots ys)
     (subst (λ (t : List ℕ). Runs known words (ends (Some (sha256 bytes)) (says t ∷ [])) before (closed result after)) said (rest bytes was.is.hash)) in
-    places_on known words 0 (placing_of (trial_receiver words) xs) (λ slots. trial_rest words xs ys slots) before slots (closed result after) was.places ran
+    places_last known words 0 (placing_of (trial_receiver words) xs) (λ slots. trial_rest words xs ys slots) before slots (closed result after)
+    (ends_place_none (Some (sha256 (trial_session words xs slots ys))) (says (trial_text words xs slots ys) ∷ [])) was.places ran
 
 -- the set was placed, its session was run, and the text was printed
 pub trial_on : (known : Known) (words : List (List ℕ)) (xs : List (List ℕ)) (slots : List Slot) (ys : List (List ℕ)) (receiver : ReceiverDeal) (sender : SenderDeal) (front : Option (List ℕ))
@@ -169,7 +172,7 @@ pub trial_on : (known : Known) (words : List (List ℕ)) (xs : List (List ℕ)) 
     → length xs ≤ limit_items → length ys ≤ limit_items → IsPlacementOf receiver.stash receiver.key (bins_for (length xs)) xs slots
     → Places 0 (placing_of receiver xs) (Ok slots) → IsPlayed receiver sender xs slots ys front played
     → text ≡ summary_text (measured receiver (length xs) (length ys) played.receiver.shown) → DoesText known words text played before result after
-    → Runs known words (trial_set words xs ys) before (with_slots slots (closed result after))
+    → Runs known words (trial_set words xs ys) before (carrying slots (closed result after))
 trial_on known words xs slots ys receiver sender front played text before after result of_receiver of_sender few few' placement places is said rest =
     tried_on known words xs slots ys front played text before after result few few'
     (subst (λ (r : ReceiverDeal). WasTried words xs slots ys r (trial_sender words) front played text) of_receiver

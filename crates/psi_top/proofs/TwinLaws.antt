@@ -1,5 +1,5 @@
 -- The promises of `twin` in its own words.
-use Rattle.std.proofs.Common.{◌≡◌, inl, inr, ◌⊎◌, ℕ, false, List, [], ◌∷◌, Some, Ok, Err, slice_get, refl, sym, ap, ◌∙◌, subst, arith, zero, suc}
+use Rattle.std.proofs.Common.{◌≡◌, inl, inr, ◌⊎◌, ℕ, false, List, [], ◌∷◌, length, Some, None, Ok, Err, slice_get, refl, sym, ap, ◌∙◌, subst, arith, zero, suc}
 use Rattle.std.specs.declared.result.Result.{Result}
 use Rattle.psi_spec.specs.DealFiles.{receiver_bytes, sender_bytes}
 use Rattle.psi_spec.specs.Deals.{ReceiverDeal, SenderDeal}
@@ -9,23 +9,27 @@ use Rattle.psi_spec.specs.Placement.{Slot}
 use Rattle.psi_spec.proofs.DealFiles.{length-receiver_bytes, length-sender_bytes}
 use Rattle.psi_base.specs.Outside.{Known, Outside, Files}
 use Rattle.psi_top.specs.Commands.{Answers}
-use Rattle.psi_top.specs.Due.{told}
-use Rattle.psi_top.specs.Files.{items_in, reads_items, reads_receiver, reads_sender, receiver_in, sender_in}
-use Rattle.psi_top.specs.JudgedFiles.{HasItems, HasReceiverDeal}
-use Rattle.psi_top.specs.Promises.{IsAnswered, IsOfEffect, IsOfEnd, IsReady, IsSilent, IsUnread, Leaves}
-use Rattle.psi_top.specs.Receive.{placing_of}
-use Rattle.psi_top.specs.Tree.{Effect, puts, decides, End}
-use Rattle.psi_top.specs.Twin.{twin_first, twin_second, twin_sets, twin_tree, twins_in}
+use Rattle.psi_walk.specs.Due.{told}
+use Rattle.psi_walk.specs.Files.{items_in, reads_items, reads_receiver, reads_sender, receiver_in, sender_in}
+use Rattle.psi_walk.specs.JudgedFiles.{HasItems, HasReceiverDeal}
+use Rattle.psi_walk.specs.Promises.{IsAnswered, IsFailedEffect, IsOfEnd, IsReady, IsSilent, IsUnread, Leaves, WriteFailed}
+use Rattle.psi_spec.specs.Meeting.{placed_of}
+use Rattle.psi_walk.specs.Placing.{placing_of}
+use Rattle.psi_walk.specs.Tree.{Effect, puts, decides, End, carried_by}
+use Rattle.psi_top.specs.Twin.{dealt_for, twin_files, twin_first, twin_rest, twin_second, twin_sets, twin_tree, twins_in}
 use Rattle.psi_top.specs.TwinPromises.{AreTwins, CanTwin, HasTwins, HidTwins, IsDueInput, IsOfTwin, IsPlacedWith, TwinAnswers, TwinCompletes, TwinHides, Twins, WerePlaced}
-use Rattle.psi_top.specs.Walk.{IsNotPlaced}
+use Rattle.psi_walk.specs.Walk.{IsNotPlaced}
 use Rattle.psi_words.specs.declared.form.Command.TheVariants.{Twin}
 use Rattle.psi_texts.specs.declared.status.Status.{Status}
 use Rattle.psi_texts.specs.declared.status.Status.TheVariants as status
-use Rattle.psi_top.proofs.Answered.{follows_answers}
-use Rattle.psi_top.proofs.JudgedFiles.{AtFile, unread, wanting, refused, taken_on, answered_items, answered_receiver, answered_sender, has_bad_line, has_bad_receiver, has_bad_sender, has_items, has_receiver, has_sender, items_bad, left_decides, left_items, left_receiver, left_sender, receiver_bad, sender_bad}
+use Rattle.psi_walk.proofs.Answered.{follows_answers}
+use Rattle.psi_walk.proofs.JudgedFiles.{AtFile, unread, wanting, refused, taken_on, answered_items, answered_receiver, answered_sender, has_bad_line, has_bad_receiver, has_bad_sender, has_items, has_receiver, has_sender, items_bad, left_decides, left_items, left_receiver, left_sender, receiver_bad, sender_bad}
 use Rattle.psi_top.proofs.Laws.{answers_done, answers_through, follows_told}
 use Rattle.psi_top.proofs.ReceiveLaws.{deal_of, is_placement, receiver_ready}
-use Rattle.psi_top.proofs.SendLaws.{items_ready, ready_on, sender_deal_of, sender_ready}
+use Rattle.psi_top.proofs.SendLaws.{sender_deal_of, sender_ready}
+use Rattle.psi_walk.proofs.Carried.{answers_unrefused, carries_all, last_carries}
+use Rattle.psi_walk.proofs.Unplaced.{ends_place_none}
+use Rattle.psi_walk.proofs.Ready.{is_there, items_ready, ready_on, ready_told}
 use Rattle.psi_top.proofs.TwinVerdicts.{Says, same_stream, twins_hide, twins_ready, twins_say}
 
 -- ---- what was read
@@ -94,8 +98,8 @@ wanted known words before slots why after s quiet none = subst (λ (x : Status).
 
 -- a file that was due was not read
 not_read : (known : Known) (words : List (List ℕ)) (before : Outside) (word : ℕ) → IsDueInput known words before word → (slots : List (List Slot)) (why : Status)
-    → IsUnread word file_limit why → slots ≡ [] → TwinAnswers known words before slots why
-not_read known words before word due slots (status.FileFault place) h none = inl (subst (λ (w : ℕ). IsDueInput known words before w) (sym h) due, none)
+    → IsUnread known words word file_limit why → slots ≡ [] → TwinAnswers known words before slots why
+not_read known words before word due slots (status.FileFault place) h none = inl (subst (λ (w : ℕ). IsDueInput known words before w) (sym h.0) due, h.1, none)
 not_read known words before word due slots (status.TooLong place taken) h none = (subst (λ (w : ℕ). IsDueInput known words before w) (sym h.0) due, h.1, none)
 not_read known words before word due slots status.NoMemory h none = inl none
 not_read known words before word due slots _ h none = absurd h
@@ -104,64 +108,76 @@ not_read known words before word due slots _ h none = absurd h
 same_effect : (one other : Effect) → Some one ≡ Some other → one ≡ other
 same_effect one other e = cc e
 
-only_outputs : (stream columns : List ℕ) (at : ℕ) (effect : Effect) (place : ℕ) → slice_get (puts 5 stream ∷ puts 6 columns ∷ []) at ≡ Some effect
-    → IsOfEffect (status.FileFault place) effect → (place ≡ 5) ⊎ (place ≡ 6)
-only_outputs stream columns zero effect place e h =
-    inl (let f : IsOfEffect (status.FileFault place) (puts 5 stream) = subst (IsOfEffect (status.FileFault place)) (sym (same_effect (puts 5 stream) effect e)) h in f)
-only_outputs stream columns (suc zero) effect place e h =
-    inr (let f : IsOfEffect (status.FileFault place) (puts 6 columns) = subst (IsOfEffect (status.FileFault place)) (sym (same_effect (puts 6 columns) effect e)) h in f)
-only_outputs stream columns (suc (suc at)) effect place e h = cc e
+only_outputs : (known : Known) (words : List (List ℕ)) (stream columns : List ℕ) (at : ℕ) (effect : Effect) (place : ℕ) → slice_get (puts 5 stream ∷ puts 6 columns ∷ []) at ≡ Some effect
+    → IsFailedEffect known words (status.FileFault place) effect → ((place ≡ 5) ⊎ (place ≡ 6)) × WriteFailed known words place
+only_outputs known words stream columns zero effect place e h =
+    let f : IsFailedEffect known words (status.FileFault place) (puts 5 stream) = subst (IsFailedEffect known words (status.FileFault place)) (sym (same_effect (puts 5 stream) effect e)) h in
+    (inl f.0, f.1)
+only_outputs known words stream columns (suc zero) effect place e h =
+    let f : IsFailedEffect known words (status.FileFault place) (puts 6 columns) = subst (IsFailedEffect known words (status.FileFault place)) (sym (same_effect (puts 6 columns) effect e)) h in
+    (inr f.0, f.1)
+only_outputs known words stream columns (suc (suc at)) effect place e h = cc e
 
 -- and nothing is printed
-none_printed : (stream columns : List ℕ) (at : ℕ) (effect : Effect) → slice_get (puts 5 stream ∷ puts 6 columns ∷ []) at ≡ Some effect → IsOfEffect status.PrintFault effect → ⊥
-none_printed stream columns zero effect e h =
-    let f : IsOfEffect status.PrintFault (puts 5 stream) = subst (IsOfEffect status.PrintFault) (sym (same_effect (puts 5 stream) effect e)) h in f
-none_printed stream columns (suc zero) effect e h =
-    let f : IsOfEffect status.PrintFault (puts 6 columns) = subst (IsOfEffect status.PrintFault) (sym (same_effect (puts 6 columns) effect e)) h in f
-none_printed stream columns (suc (suc at)) effect e h = cc e
+none_printed : (known : Known) (words : List (List ℕ)) (stream columns : List ℕ) (at : ℕ) (effect : Effect) → slice_get (puts 5 stream ∷ puts 6 columns ∷ []) at ≡ Some effect → IsFailedEffect known words status.PrintFault effect → ⊥
+none_printed known words stream columns zero effect e h =
+    let f : IsFailedEffect known words status.PrintFault (puts 5 stream) = subst (IsFailedEffect known words status.PrintFault) (sym (same_effect (puts 5 stream) effect e)) h in f
+none_printed known words stream columns (suc zero) effect e h =
+    let f : IsFailedEffect known words status.PrintFault (puts 6 columns) = subst (IsFailedEffect known words status.PrintFault) (sym (same_effect (puts 6 columns) effect e)) h in f
+none_printed known words stream columns (suc (suc at)) effect e h = cc e
 
 of_end : (known : Known) (words : List (List ℕ)) (before : Outside) (slots : List (List Slot)) (stream columns : List ℕ) → WerePlaced known words before slots
-    → (why : Status) → IsOfEnd false why (puts 5 stream ∷ puts 6 columns ∷ []) → TwinAnswers known words before slots why
+    → (why : Status) → IsOfEnd known words false why (puts 5 stream ∷ puts 6 columns ∷ []) → TwinAnswers known words before slots why
 of_end known words before slots stream columns was status.Done h = was
 of_end known words before slots stream columns was status.NoMemory h = inr (was.0, was.1, (was.2.0, inr was.2.1))
-of_end known words before slots stream columns was (status.FileFault place) h = inr (only_outputs stream columns h.0 h.1 place h.2 h.3, was)
-of_end known words before slots stream columns was status.PrintFault h = absurd (none_printed stream columns h.0 h.1 h.2 h.3)
+of_end known words before slots stream columns was (status.FileFault place) h =
+    let failed = only_outputs known words stream columns h.0 h.1 place h.2 h.3 in inr (failed.0, failed.1, was)
+of_end known words before slots stream columns was status.PrintFault h = absurd (none_printed known words stream columns h.0 h.1 h.2 h.3)
 of_end known words before slots stream columns was _ h = absurd h.3
 
 -- the second list was not placed
 second_unplaced : (known : Known) (words : List (List ℕ)) (before : Outside) (t : Twins) → HasTwins known words before t → AreTwins t → (slots : List Slot)
-    → IsPlacedWith t.receiver t.xs slots → (why : Status) → IsNotPlaced 2 (placing_of t.receiver t.others) why → TwinAnswers known words before (slots ∷ []) why
+    → IsPlacedWith t.receiver t.xs slots → (placed rest : List (List Slot)) (why : Status) → IsNotPlaced 2 (placing_of t.receiver t.others) why → rest ≡ []
+    → placed ≡ carried_by why slots rest → TwinAnswers known words before placed why
 unfolding placing_of
-second_unplaced known words before t has is slots first (status.NoPlacement place items touched) h = (t, has, (is, inr (h.0, (h.1, h.2), (slots, refl, first))))
-second_unplaced known words before t has is slots first status.NoMemory h = inr (t, has, (is, inl (slots, refl, first)))
-second_unplaced known words before t has is slots first _ h = absurd h
+second_unplaced known words before t has is slots first placed rest (status.NoPlacement place items touched) h none carried =
+    ((t, has, (is, inr (h.0, (h.1.0, h.2), (slots, first)))), carried)
+second_unplaced known words before t has is slots first placed rest status.NoMemory h none carried =
+    inr (t, has, (is, inl (slots, carried ∙ ap (λ (more : List (List Slot)). slots ∷ more) none, first)))
+second_unplaced known words before t has is slots first placed rest _ h none carried = absurd h
 
 of_second_set : (known : Known) (words : List (List ℕ)) (before : Outside) (t : Twins) → HasTwins known words before t → AreTwins t → (slots : List Slot)
-    → IsPlacedWith t.receiver t.xs slots → (rest : List (List Slot)) (why : Status) (after : Outside)
-    → IsAnswered known words false (twin_second t.receiver t.sender t.xs slots t.others) before rest why after → Answered known words before (slots ∷ rest) why after
+    → IsPlacedWith t.receiver t.xs slots → (placed rest : List (List Slot)) (why : Status) (after : Outside) → placed ≡ carried_by why slots rest
+    → IsAnswered known words false (twin_second t.receiver t.sender t.xs slots t.others) before rest why after → Answered known words before placed why after
 unfolding Answered
-of_second_set known words before t has is slots first [] why after a = (second_unplaced known words before t has is slots first why a.0, a.1)
-of_second_set known words before t has is slots first (others ∷ rest) why after a =
-    let second = is_placement t.receiver t.others others a.0 in
-    let end = a.1 in
-    let carried : slots ∷ others ∷ rest ≡ slots ∷ others ∷ [] = ap (λ (more : List (List Slot)). slots ∷ others ∷ more) end.3 in
-    (of_end known words before (slots ∷ others ∷ rest) _ _ (t, has, (is, (slots, others, carried, first, second))) why end.0, end.1)
+of_second_set known words before t has is slots first placed rest why after carried (inl a) =
+    (second_unplaced known words before t has is slots first placed rest why a.0 a.2 carried, a.1)
+of_second_set known words before t has is slots first placed rest why after carried (inr a) =
+    let others = a.0 in
+    let end = a.4 in
+    let second = is_placement t.receiver t.others others a.2 in
+    let tree = twin_rest t.receiver t.sender t.xs slots t.others others in
+    let none = ends_place_none None (twin_files t.receiver t.sender (placed_of t.xs slots) (placed_of t.others others) (dealt_for t.receiver (length t.xs))) in
+    let last : rest ≡ others ∷ [] = last_carries known words false tree before others rest a.1 why after none a.3 end in
+    let both : placed ≡ slots ∷ others ∷ [] =
+    carried ∙ (carries_all why slots rest (answers_unrefused known words false tree before a.1 why after none end) ∙ ap (λ (more : List (List Slot)). slots ∷ more) last) in
+    (of_end known words before placed _ _ (t, has, (is, (slots, others, both, first, second))) why end.0, end.1)
 
 -- the first list was not placed
 first_unplaced : (known : Known) (words : List (List ℕ)) (before : Outside) (t : Twins) → HasTwins known words before t → AreTwins t
-    → (why : Status) → IsNotPlaced 1 (placing_of t.receiver t.xs) why → TwinAnswers known words before [] why
+    → (slots : List (List Slot)) (why : Status) → IsNotPlaced 1 (placing_of t.receiver t.xs) why → slots ≡ [] → TwinAnswers known words before slots why
 unfolding placing_of
-first_unplaced known words before t has is (status.NoPlacement place items touched) h = (t, has, (is, inl (h.0, (h.1, h.2), refl)))
-first_unplaced known words before t has is status.NoMemory h = inl refl
-first_unplaced known words before t has is _ h = absurd h
+first_unplaced known words before t has is slots (status.NoPlacement place items touched) h none = ((t, has, (is, inl (h.0, (h.1.0, h.2)))), none)
+first_unplaced known words before t has is slots status.NoMemory h none = inl none
+first_unplaced known words before t has is slots _ h none = absurd h
 
 of_first_set : (known : Known) (words : List (List ℕ)) (before : Outside) (t : Twins) → HasTwins known words before t → AreTwins t
     → (slots : List (List Slot)) (why : Status) (after : Outside)
     → IsAnswered known words false (twin_first t.receiver t.sender t.xs t.others) before slots why after → Answered known words before slots why after
 unfolding Answered
-of_first_set known words before t has is [] why after a = (first_unplaced known words before t has is why a.0, a.1)
-of_first_set known words before t has is (chosen ∷ rest) why after a =
-    of_second_set known words before t has is chosen (is_placement t.receiver t.xs chosen a.0) rest why after a.1
+of_first_set known words before t has is slots why after (inl a) = (first_unplaced known words before t has is slots why a.0 a.2, a.1)
+of_first_set known words before t has is slots why after (inr a) =
+    of_second_set known words before t has is a.0 (is_placement t.receiver t.xs a.0 a.2) slots a.1 why after a.3 a.4
 
 of_sets : (known : Known) (words : List (List ℕ)) (before : Outside) (t : Twins) → HasTwins known words before t → (r : Result (Unit {0}) Status) → Says t r
     → (slots : List (List Slot)) (why : Status) (after : Outside)
@@ -258,62 +274,62 @@ answers_twin known words before end h = λ fit named.
 -- ---- valid files, and lists that have placements
 
 sets_are_ready : (words : List (List ℕ)) (files : Files) (before : Outside) (can : CanTwin words files)
-    → IsReady (told files words) before (twin_sets can.receiver can.sender (items_of can.x.bytes) (items_of can.other.bytes))
+    → IsReady (told (Some files) words) before (twin_sets can.receiver can.sender (items_of can.x.bytes) (items_of can.other.bytes))
 unfolding placing_of
 sets_are_ready words files before can =
     let xs : List (List ℕ) = items_of can.x.bytes in
     let others : List (List ℕ) = items_of can.other.bytes in
-    ready_on (told files words) before (twins_in can.receiver can.sender xs others) tt (λ _. twin_first can.receiver can.sender xs others)
+    ready_on (told (Some files) words) before (twins_in can.receiver can.sender xs others) tt (λ _. twin_first can.receiver can.sender xs others)
     (twins_ready can.receiver can.sender xs others can.pair can.sizes) ((can.slots, can.first), λ slots is. ((can.others, can.second), λ others is. tt))
 
 sender_is_ready : (words : List (List ℕ)) (files : Files) (before : Outside) (can : CanTwin words files)
-    → IsReady (told files words) before (reads_sender 4 (λ sender. twin_sets can.receiver sender (items_of can.x.bytes) (items_of can.other.bytes)))
+    → IsReady (told (Some files) words) before (reads_sender 4 (λ sender. twin_sets can.receiver sender (items_of can.x.bytes) (items_of can.other.bytes)))
 unfolding reads_sender
 sender_is_ready words files before can = (
   sender_bytes can.sender,
-  can.s_there,
+  is_there files words 4 (sender_bytes can.sender) can.s_there,
   omega (arith, length-sender_bytes can.sender can.sender_is),
-  ready_on (told files words) before (sender_in 4 (sender_bytes can.sender)) can.sender
+  ready_on (told (Some files) words) before (sender_in 4 (sender_bytes can.sender)) can.sender
       (λ sender. twin_sets can.receiver sender (items_of can.x.bytes) (items_of can.other.bytes)) (sender_ready 4 can.sender can.sender_is)
       (sets_are_ready words files before can),
 )
 
 receiver_is_ready : (words : List (List ℕ)) (files : Files) (before : Outside) (can : CanTwin words files)
-    → IsReady (told files words) before (reads_receiver 3 (λ receiver. reads_sender 4 (λ sender. twin_sets receiver sender (items_of can.x.bytes) (items_of can.other.bytes))))
+    → IsReady (told (Some files) words) before (reads_receiver 3 (λ receiver. reads_sender 4 (λ sender. twin_sets receiver sender (items_of can.x.bytes) (items_of can.other.bytes))))
 unfolding reads_receiver
 receiver_is_ready words files before can = (
   receiver_bytes can.receiver,
-  can.r_there,
+  is_there files words 3 (receiver_bytes can.receiver) can.r_there,
   omega (arith, length-receiver_bytes can.receiver can.receiver_is),
-  ready_on (told files words) before (receiver_in 3 (receiver_bytes can.receiver)) can.receiver
+  ready_on (told (Some files) words) before (receiver_in 3 (receiver_bytes can.receiver)) can.receiver
       (λ receiver. reads_sender 4 (λ sender. twin_sets receiver sender (items_of can.x.bytes) (items_of can.other.bytes))) (receiver_ready 3 can.receiver can.receiver_is)
       (sender_is_ready words files before can),
 )
 
 second_is_ready : (words : List (List ℕ)) (files : Files) (before : Outside) (can : CanTwin words files)
-    → IsReady (told files words) before
+    → IsReady (told (Some files) words) before
     (reads_items 2 (λ others. reads_receiver 3 (λ receiver. reads_sender 4 (λ sender. twin_sets receiver sender (items_of can.x.bytes) others))))
 unfolding reads_items
 second_is_ready words files before can = (
   can.other.bytes,
-  can.other.there,
+  is_there files words 2 can.other.bytes can.other.there,
   can.other.short,
-  ready_on (told files words) before (items_in 2 can.other.bytes) (items_of can.other.bytes)
+  ready_on (told (Some files) words) before (items_in 2 can.other.bytes) (items_of can.other.bytes)
       (λ others. reads_receiver 3 (λ receiver. reads_sender 4 (λ sender. twin_sets receiver sender (items_of can.x.bytes) others)))
       (items_ready words can.other.bytes 2 can.other.good) (receiver_is_ready words files before can),
 )
 
-twin_is_ready : (words : List (List ℕ)) (files : Files) (before : Outside) (can : CanTwin words files) → IsReady (told files words) before twin_tree
+twin_is_ready : (words : List (List ℕ)) (files : Files) (before : Outside) (can : CanTwin words files) → IsReady (told (Some files) words) before twin_tree
 unfolding reads_items
 twin_is_ready words files before can = (
   can.x.bytes,
-  can.x.there,
+  is_there files words 1 can.x.bytes can.x.there,
   can.x.short,
-  ready_on (told files words) before (items_in 1 can.x.bytes) (items_of can.x.bytes)
+  ready_on (told (Some files) words) before (items_in 1 can.x.bytes) (items_of can.x.bytes)
       (λ xs. reads_items 2 (λ others. reads_receiver 3 (λ receiver. reads_sender 4 (λ sender. twin_sets receiver sender xs others))))
       (items_ready words can.x.bytes 1 can.x.good) (second_is_ready words files before can),
 )
 
 pub answers_changed : (known : Known) (words : List (List ℕ)) (before : Outside) (end : End) → Answers known words before end → TwinCompletes words before end
-answers_changed known words before end h = λ files incoming is coming fit named can calm.
-    answers_through known words before end h files incoming Twin is coming fit named (twin_is_ready words files before can) calm
+answers_changed known words before end h = λ files is fit named can calm.
+    answers_through known words before end h Twin fit named (ready_told files words before twin_tree is (twin_is_ready words files before can)) calm

@@ -8,11 +8,11 @@ use Rattle.psi_frames.specs.Dialogue.{Talks}
 use Rattle.psi_top.specs.Audit.{audit_record, audit_tree, findings_of}
 use Rattle.psi_top.specs.Twin.{twin_sets, twin_tree, twins_in}
 use Rattle.psi_top.specs.Commands.{Answers, AnswersBy, tree_of}
-use Rattle.psi_top.specs.Files.{items_in, old_deal_in, reads_items, reads_old, reads_receiver, reads_record, reads_sender, receiver_in, record_in, sender_in}
+use Rattle.psi_walk.specs.Files.{items_in, old_deal_in, reads_items, reads_old, reads_receiver, reads_record, reads_sender, receiver_in, record_in, sender_in}
 use Rattle.psi_words.specs.Form.{command_of}
 use Rattle.psi_top.specs.LocalPromises.{IsWired, RunsBothEnds}
-use Rattle.psi_top.specs.Tree.{Effect, says, puts, Placing, Tree, reads, refuses, places, opens, talks, ends, decides, End, stopped}
-use Rattle.psi_top.specs.Walk.{AtCall, AtPlace, AtRefusal, AtEnd, starved, cut, passed, hungry, crowded, placed, given_up, refused, gave_up, all_done, Does, Follows, Gives, read_status, write_status, print_status, open_status, talk_status}
+use Rattle.psi_walk.specs.Tree.{Effect, says, puts, Placing, Tree, reads, refuses, places, opens, talks, ends, decides, End, stopped}
+use Rattle.psi_walk.specs.Walk.{AtCall, AtPlace, AtRefusal, AtEnd, starved, cut, passed, hungry, crowded, placed, given_up, refused, gave_up, all_done, Does, Follows, Gives, read_status, write_status, print_status, open_status, talk_status}
 use Rattle.psi_words.specs.declared.form.Command.{Command}
 use Rattle.psi_words.specs.declared.form.Command.TheVariants.{Audit, Deal, Local, Make, Receive, Renew, Send, Trial, Twin}
 use Rattle.psi_texts.specs.declared.status.Status.{Status}
@@ -31,7 +31,7 @@ unfoldable pub MayBeWired : Bool → Tree → Type 0
 MayBeWired may (reads word limit next) = (bytes : List ℕ) → MayBeWired may (next bytes)
 MayBeWired may (refuses verdict) = Unit {0}
 MayBeWired may (places word set next) = (slots : List Slot) → MayBeWired may (next slots)
-MayBeWired may (opens next) = MayBeWired may next
+MayBeWired may (opens link next) = MayBeWired may next
 MayBeWired may (talks d next) = (bytes : List ℕ) → MayBeWired may (next bytes)
 MayBeWired may (ends wire effects) = (may ≡ true) ⊎ (wire ≡ None)
 
@@ -47,15 +47,15 @@ end_wired may taken wire before end m (gave_up t e) = stopped_wired may status.N
 end_wired may taken wire before end (inl m) (all_done e) = inr (m, ap (λ (d : End). d.status) e)
 end_wired may taken wire before end (inr none) (all_done e) = inl (ap (λ (d : End). d.wire) e ∙ none)
 
-does_wired : (may : Bool) (words : List (List ℕ)) (taken : Bool) (wire : Option (List ℕ)) (effects : List Effect) (before : Outside) (end : End) → (may ≡ true) ⊎ (wire ≡ None)
-    → Does words taken wire effects before end → MayHave may end
+does_wired : (may : Bool) (known : Known) (words : List (List ℕ)) (taken : Bool) (wire : Option (List ℕ)) (effects : List Effect) (before : Outside) (end : End) → (may ≡ true) ⊎ (wire ≡ None)
+    → Does known words taken wire effects before end → MayHave may end
 unfolding Does
-does_wired may words taken wire [] before end m h = end_wired may taken wire before end m h
-does_wired may words taken wire (says text ∷ rest) before end m h =
-    call_wired may taken (PrintsAll before text) print_status before end (λ _ after. Does words taken wire rest after end) (λ x after more. does_wired may words taken wire rest after end m more) h
-does_wired may words taken wire (puts word bytes ∷ rest) before end m h =
-    call_wired may taken (Writes before (word_at words word) bytes) (write_status word) before end (λ _ after. Does words taken wire rest after end)
-    (λ x after more. does_wired may words taken wire rest after end m more) h
+does_wired may known words taken wire [] before end m h = end_wired may taken wire before end m h
+does_wired may known words taken wire (says text ∷ rest) before end m h =
+    call_wired may taken (PrintsAll before text) print_status before end (λ _ after. Does known words taken wire rest after end) (λ x after more. does_wired may known words taken wire rest after end m more) h
+does_wired may known words taken wire (puts word bytes ∷ rest) before end m h =
+    call_wired may taken (Writes known before (word_at words word) bytes) (write_status word) before end (λ _ after. Does known words taken wire rest after end)
+    (λ x after more. does_wired may known words taken wire rest after end m more) h
 
 refusal_wired : (may taken : Bool) (verdict : Status) (before : Outside) (end : End) → AtRefusal taken verdict before end → MayHave may end
 refusal_wired may taken verdict before end (given_up t e) = stopped_wired may status.NoMemory before end e
@@ -82,13 +82,13 @@ follows_wired may known words taken (refuses verdict) before end m h = refusal_w
 follows_wired may known words taken (places word set next) before end m h =
     place_wired may taken word set before end (λ slots later. Follows known words taken (next slots) before later)
     (λ slots later more. follows_wired may known words taken (next slots) before later (m slots) more) h
-follows_wired may known words taken (opens next) before end m h =
-    call_wired may taken (Opens before) open_status before end (λ _ after. Follows known words taken next after end)
+follows_wired may known words taken (opens link next) before end m h =
+    call_wired may taken (Opens known before link) open_status before end (λ _ after. Follows known words taken next after end)
     (λ x after more. follows_wired may known words taken next after end m more) h
 follows_wired may known words taken (talks d next) before end m h =
     call_wired may taken (Talks known d before) talk_status before end (λ bytes after. Follows known words true (next bytes) after end)
     (λ bytes after more. follows_wired may known words true (next bytes) after end (m bytes) more) h
-follows_wired may known words taken (ends wire effects) before end m h = does_wired may words taken wire effects before end m h
+follows_wired may known words taken (ends wire effects) before end m h = does_wired may known words taken wire effects before end m h
 
 -- ---- the trees of the commands
 

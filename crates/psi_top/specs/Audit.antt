@@ -6,8 +6,8 @@ use Rattle.psi_spec.specs.Records.{LoggedSession}
 use Rattle.psi_audit.specs.Verdicts.{verdict_of}
 use Rattle.psi_audit.specs.declared.verdict.Verdict.{Verdict}
 use Rattle.psi_audit.specs.declared.verdict.Verdict.TheVariants as verdict
-use Rattle.psi_top.specs.Files.{reads_items, reads_receiver, reads_record, reads_sender}
-use Rattle.psi_top.specs.Tree.{says, Tree, decides, ends}
+use Rattle.psi_walk.specs.Files.{reads_items, reads_receiver, reads_record, reads_sender}
+use Rattle.psi_walk.specs.Tree.{says, Tree, decides, ends}
 use Rattle.psi_top.specs.declared.findings.Findings.{Findings}
 use Rattle.psi_texts.specs.declared.status.Status.{Status}
 use Rattle.psi_texts.specs.declared.status.Status.TheVariants as status

@@ -17,10 +17,10 @@ use Rattle.psi_log.specs.BadRecords.{bad_record}
 use Rattle.psi_audit.specs.Verdicts.{places_of, slots_fault}
 use Rattle.psi_top.specs.Audit.{audit_text}
 use Rattle.psi_words.specs.Form.{command_of}
-use Rattle.psi_top.specs.JudgedFiles.{HasBadLine, HasBadReceiverDeal, HasBadRecord, HasBadSenderDeal, HasItems, HasReceiverDeal, HasRecord, HasSenderDeal}
+use Rattle.psi_walk.specs.JudgedFiles.{HasBadLine, HasBadReceiverDeal, HasBadRecord, HasBadSenderDeal, HasItems, HasReceiverDeal, HasRecord, HasSenderDeal}
 use Rattle.psi_top.specs.LocalPromises.{HasList, OnFirstOrSecond}
-use Rattle.psi_top.specs.Promises.{IsCalm, IsSilent}
-use Rattle.psi_top.specs.Tree.{End}
+use Rattle.psi_walk.specs.Promises.{IsCalm, IsDone, IsSilent, ReadFailed}
+use Rattle.psi_walk.specs.Tree.{End}
 use Rattle.psi_top.specs.declared.findings.Findings.{Findings}
 use Rattle.psi_words.specs.declared.form.Command.TheVariants.{Audit}
 use Rattle.psi_texts.specs.declared.status.Status.{Status}
@@ -144,7 +144,8 @@ AuditAnswers known words before (BadSlots fault) after =
     (λ e. ArePair e.receiver e.sender × (slots_fault e.receiver e.xs e.log.slots ≡ Some fault))
 AuditAnswers known words before (Differs offset found wanted) after =
     OnEvidence known words before (DiffersFrom offset found wanted)
-AuditAnswers known words before (FileFault place) after = IsDueFile known words before place
+AuditAnswers known words before (FileFault place) after =
+    IsDueFile known words before place × ReadFailed known words place
 AuditAnswers known words before (TooLong place taken) after =
     IsDueFile known words before place × (limit_of place < taken)
 AuditAnswers known words before PrintFault after = OnEvidence known words before IsConsistent
@@ -184,6 +185,6 @@ pub record CanAudit (words : List (List ℕ)) (files : Files) : Type 0 where
 -- then `audit` is done in a calm world, or memory was wanting
 abbrev pub AuditCompletes : List (List ℕ) → Outside → End → Type 0
 AuditCompletes words before end =
-    (files : Files) (incoming : List ℕ) → before.files ≡ Some files → before.incoming ≡ Some incoming
+    (files : Files) → before.files ≡ Some files
     → bad_word words ≡ None → command_of words ≡ Some Audit → CanAudit words files
-    → IsCalm before end.left → (end.status ≡ Done) ⊎ (end.status ≡ NoMemory)
+    → IsCalm before end.left → IsDone end.status

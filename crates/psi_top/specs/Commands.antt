@@ -10,10 +10,10 @@ use Rattle.psi_top.specs.Make.{make_tree}
 use Rattle.psi_top.specs.Receive.{receive_tree}
 use Rattle.psi_top.specs.Renew.{renew_tree}
 use Rattle.psi_top.specs.Send.{send_tree}
-use Rattle.psi_top.specs.Tree.{Tree, End, stopped}
+use Rattle.psi_walk.specs.Tree.{Tree, End, stopped}
 use Rattle.psi_top.specs.Trial.{trial_tree}
 use Rattle.psi_top.specs.Twin.{twin_tree}
-use Rattle.psi_top.specs.Walk.{Runs}
+use Rattle.psi_walk.specs.Walk.{Runs}
 use Rattle.psi_words.specs.declared.form.Command.{Command}
 use Rattle.psi_words.specs.declared.form.Command.TheVariants.{Audit, Deal, Local, Make, Receive, Renew, Send, Trial, Twin}
 use Rattle.psi_texts.specs.declared.status.Status.TheVariants.{BadWords}
@@ -22,8 +22,8 @@ use Rattle.psi_texts.specs.declared.status.Status.TheVariants.{BadWords}
 abbrev pub tree_of : Command → List (List ℕ) → Tree
 tree_of Deal words = deal_tree words
 tree_of Local words = local_tree words
-tree_of Send words = send_tree
-tree_of Receive words = receive_tree
+tree_of Send words = send_tree words
+tree_of Receive words = receive_tree words
 tree_of Make words = make_tree words
 tree_of Trial words = trial_tree words
 tree_of Audit words = audit_tree

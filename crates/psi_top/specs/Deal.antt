@@ -5,7 +5,7 @@ use Rattle.psi_spec.specs.Deals.{ReceiverDeal, SenderDeal, ArePair, dealt_receiv
 use Rattle.psi_words.specs.Words.{number_of, seed_of, stash_of, tag_length_of, word_at}
 use Rattle.psi_base.specs.Outside.{Outside, written}
 use Rattle.psi_words.specs.Form.{command_of}
-use Rattle.psi_top.specs.Tree.{puts, Tree, ends, End}
+use Rattle.psi_walk.specs.Tree.{puts, Tree, ends, End}
 use Rattle.psi_words.specs.declared.form.Command.TheVariants.{Deal}
 use Rattle.psi_texts.specs.declared.status.Status.TheVariants.{Done}
 

@@ -2,9 +2,7 @@ pub mod Audit
 pub mod AuditPromises
 pub mod Commands
 pub mod Deal
-pub mod Due
-pub mod Files
-pub mod JudgedFiles
+pub mod HidingPromises
 pub mod Local
 pub mod LocalPromises
 pub mod Make
@@ -16,9 +14,7 @@ pub mod RenewPromises
 pub mod Send
 pub mod SendPromises
 pub mod Transcript
-pub mod Tree
 pub mod Trial
 pub mod TrialPromises
 pub mod Twin
 pub mod TwinPromises
-pub mod Walk

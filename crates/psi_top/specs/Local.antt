@@ -10,9 +10,9 @@ use Rattle.psi_spec.specs.SessionLaws.{pair_setup}
 use Rattle.psi_spec.specs.Sessions.{session_bytes}
 use Rattle.psi_spec.specs.Texts.{lines_text}
 use Rattle.psi_words.specs.Words.{number_of, seed_of, stash_of, tag_length_of, word_at}
-use Rattle.psi_top.specs.Files.{reads_items}
-use Rattle.psi_top.specs.Receive.{placing_of}
-use Rattle.psi_top.specs.Tree.{Effect, says, puts, Tree, places, ends}
+use Rattle.psi_walk.specs.Files.{reads_items}
+use Rattle.psi_walk.specs.Placing.{placing_of}
+use Rattle.psi_walk.specs.Tree.{Effect, says, puts, Tree, places, ends}
 
 -- the pair of deals that the words of `local` name by their seed, session and sizes
 unfoldable pub local_receiver : List (List ℕ) → ReceiverDeal

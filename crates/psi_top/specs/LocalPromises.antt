@@ -11,11 +11,13 @@ use Rattle.psi_spec.specs.Texts.{lines_text}
 use Rattle.psi_words.specs.Words.{bad_word, word_at}
 use Rattle.psi_base.specs.Outside.{Known, Outside, Files, printed_too, written}
 use Rattle.psi_words.specs.Form.{command_of}
-use Rattle.psi_top.specs.JudgedFiles.{HasBadLine, HasItems}
+use Rattle.psi_walk.specs.JudgedFiles.{HasBadLine, HasItems}
+use Rattle.psi_top.specs.HidingPromises.{HidesList}
 use Rattle.psi_top.specs.Local.{local_receiver, local_sender, local_session, local_setup}
-use Rattle.psi_top.specs.Promises.{IsCalm, IsSilent}
+use Rattle.psi_walk.specs.Promises.{IsCalm, IsDone, IsSilent, ReadFailed, WriteFailed}
 use Rattle.psi_top.specs.ReceivePromises.{IsCrowdedSet}
-use Rattle.psi_top.specs.Tree.{End}
+use Rattle.psi_walk.specs.Placing.{slots_with}
+use Rattle.psi_walk.specs.Tree.{End}
 use Rattle.psi_words.specs.declared.form.Command.TheVariants.{Local, Trial}
 use Rattle.psi_texts.specs.declared.status.Status.{Status}
 use Rattle.psi_texts.specs.declared.status.Status.TheVariants.{Done, BadItems, NoPlacement, FileFault, PrintFault, TooLong, NoMemory}
@@ -35,11 +37,12 @@ pub record HasBoth (known : Known) (words : List (List ℕ)) (before : Outside) 
   pub y_file : HasItems known words before 2 ys
   pub fact : P xs
 
--- these slots, which an outcome carries and no others, are a placement of items with the named deal
+-- these slots, which an outcome carries and no others, are the placement that is picked for items with the named deal
 abbrev pub CarriesPlacement : List (List ℕ) → List (List Slot) → List (List ℕ) → Type 0
 CarriesPlacement words placed xs =
     (slots : List Slot) × (placed ≡ slots ∷ [])
     × IsPlacementOf (local_receiver words).stash (local_receiver words).key (bins_for (length xs)) xs slots
+    × (slots_with (local_receiver words) xs ≡ Some slots)
 
 -- both files have items, and the receiver's were placed
 abbrev pub WasPlaced : Known → List (List ℕ) → Outside → List (List Slot) → Type 0
@@ -60,8 +63,8 @@ LocalAnswers known words before placed (NoPlacement place items touched) =
     (place ≡ 1) × HasBoth known words before (λ xs. IsCrowdedSet items touched xs (local_receiver words))
     × (placed ≡ [])
 LocalAnswers known words before placed (FileFault place) =
-    (OnFirstOrSecond known words before (λ word. place ≡ word) × (placed ≡ []))
-    ⊎ ((place ≡ 6) × HasRecordWord words × WasPlaced known words before placed)
+    (OnFirstOrSecond known words before (λ word. place ≡ word) × ReadFailed known words place × (placed ≡ []))
+    ⊎ ((place ≡ 6) × WriteFailed known words place × HasRecordWord words × WasPlaced known words before placed)
 LocalAnswers known words before placed (TooLong place taken) =
     OnFirstOrSecond known words before (λ word. place ≡ word) × (file_limit < taken) × (placed ≡ [])
 LocalAnswers known words before placed PrintFault = WasPlaced known words before placed
@@ -90,9 +93,10 @@ IsWired words end = (end.wire ≡ None) ⊎ (RunsBothEnds words × (end.status �
 abbrev pub recorded : List (List ℕ) → Outside → List ℕ → Outside
 recorded words before file = if nat_lt 6 (length words) then written before (word_at words 6) file else before
 
--- the named deals are a pair and the outcome carries a placement of the receiver's items; with these `local` printed
--- the items that are shown, which are every common item, and others of which each shares its tag with the sender's item
--- that it names; it wrote the record of the session, if it has a word, and answered the digest of the session
+-- the named deals are a pair and the outcome carries the placement that is picked for the receiver's items; with these
+-- `local` printed the items that are shown, which are every common item, and others of which each shares its tag with
+-- the sender's item that it names; it wrote the record of the session, if it has a word, and answered the digest of the
+-- session; and what its receiver sends hides the list
 pub record PrintedShown (known : Known) (words : List (List ℕ)) (before : Outside) (end : End) : Type 0 where
   pub xs : List (List ℕ)
   pub ys : List (List ℕ)
@@ -102,6 +106,7 @@ pub record PrintedShown (known : Known) (words : List (List ℕ)) (before : Outs
   pub pair : ArePair (local_receiver words) (local_sender words)
   pub placement
       : IsPlacementOf (local_receiver words).stash (local_receiver words).key (bins_for (length xs)) xs slots
+  pub picked : slots_with (local_receiver words) xs ≡ Some slots
   pub carried : end.placed ≡ slots ∷ []
   pub left : end.left
       ≡ recorded words (printed_too before (lines_text (shown (local_setup words xs slots) ys)))
@@ -111,6 +116,7 @@ pub record PrintedShown (known : Known) (words : List (List ℕ)) (before : Outs
       → Contains (shown (local_setup words xs slots) ys) item
   pub others : (p : Placed) → Contains (shown_placed (local_setup words xs slots) ys) p
       → SharesTag (local_setup words xs slots) ys p
+  pub hidden : HidesList (local_receiver words) xs slots
 
 -- the same where `local` is done
 abbrev pub LocalShows : Known → List (List ℕ) → Outside → End → Type 0
@@ -138,6 +144,6 @@ pub record CanPlay (words : List (List ℕ)) (files : Files) : Type 0 where
 -- then `local` is done in a calm world, or memory was wanting
 abbrev pub LocalCompletes : List (List ℕ) → Outside → End → Type 0
 LocalCompletes words before end =
-    (files : Files) (incoming : List ℕ) → before.files ≡ Some files → before.incoming ≡ Some incoming
+    (files : Files) → before.files ≡ Some files
     → bad_word words ≡ None → command_of words ≡ Some Local → CanPlay words files
-    → IsCalm before end.left → (end.status ≡ Done) ⊎ (end.status ≡ NoMemory)
+    → IsCalm before end.left → IsDone end.status

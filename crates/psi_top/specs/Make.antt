@@ -4,7 +4,7 @@ use Rattle.psi_spec.specs.MadeFiles.{made_file}
 use Rattle.psi_words.specs.Words.{number_of, word_at}
 use Rattle.psi_base.specs.Outside.{Outside, written}
 use Rattle.psi_words.specs.Form.{command_of}
-use Rattle.psi_top.specs.Tree.{puts, Tree, ends, End}
+use Rattle.psi_walk.specs.Tree.{puts, Tree, ends, End}
 use Rattle.psi_words.specs.declared.form.Command.TheVariants.{Make}
 use Rattle.psi_texts.specs.declared.status.Status.TheVariants.{Done}
 

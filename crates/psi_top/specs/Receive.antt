@@ -1,29 +1,24 @@
 -- What `receive` does: it reads its items and its deal, places the items, opens the link, runs the receiver's end of a
 -- session, prints the items that are shown, and writes the record of the session.
-use Rattle.std.specs.Prelude.{◌≡◌, ◌+◌, ◌-◌, ◌*◌, ℕ, Bool, if◌then◌else◌, List, [], ◌∷◌, ◌++◌, length, map, take, drop, min, None, zero, suc}
+use Rattle.std.specs.Prelude.{◌≡◌, ◌+◌, ◌-◌, ◌*◌, ℕ, Bool, if◌then◌else◌, List, [], ◌∷◌, ◌++◌, length, take, drop, min, None, zero, suc}
 use Rattle.std.specs.Int.{w32, from_be_bytes}
 use Rattle.psi_spec.specs.Deals.{ReceiverDeal}
 use Rattle.psi_spec.specs.Frames.{tags_of}
 use Rattle.psi_spec.specs.Hits.{hit_items, receiver_side}
-use Rattle.psi_spec.specs.Limits.{bins_for}
 use Rattle.psi_spec.specs.Meeting.{Placed, placed_of}
-use Rattle.psi_spec.specs.Placement.{Slot, candidates_of}
+use Rattle.psi_spec.specs.Placement.{Slot}
 use Rattle.psi_spec.specs.Records.{record_file}
 use Rattle.psi_spec.specs.Sessions.{weave}
 use Rattle.psi_spec.specs.Streams.{block_tags, blocks_for}
 use Rattle.psi_spec.specs.Texts.{lines_text}
 use Rattle.psi_receiver.specs.Laws.{IsStreamFor, own_stream, receiver_dialogue}
 use Rattle.psi_receiver.specs.Receiving.{hits_of}
-use Rattle.psi_top.specs.Files.{reads_items, reads_receiver}
-use Rattle.psi_top.specs.Tree.{Effect, says, puts, Placing, Tree, places, opens, talks, ends}
-
--- the set of items that is placed with a deal
-unfoldable pub placing_of : ReceiverDeal → List (List ℕ) → Placing
-placing_of deal xs = record {
-  stash = deal.stash;
-  bins = bins_for (length xs);
-  candidates = map (candidates_of deal.key (bins_for (length xs))) xs;
-}
+use Rattle.psi_walk.specs.Files.{reads_items, reads_receiver}
+use Rattle.psi_words.specs.Words.{word_at}
+use Rattle.psi_base.specs.Outside.{Link, link_to}
+use Rattle.psi_base.specs.declared.opening.Side.TheVariants.{Connect}
+use Rattle.psi_walk.specs.Placing.{placing_of}
+use Rattle.psi_walk.specs.Tree.{Effect, says, puts, Tree, places, opens, talks, ends}
 
 -- the tags of a list, of which so many are left in so many blocks: the tags of each come behind the ten bytes that its
 -- frame begins with
@@ -75,14 +70,18 @@ abbrev pub shows_and_keeps : List (List ℕ) → ReceiverDeal → List Slot → 
 shows_and_keeps xs deal slots taken =
     says (shown_text xs deal slots taken) ∷ puts 4 (session_record xs deal slots taken) ∷ []
 
+-- its link: it connects to the sender at the address of its first word
+abbrev pub sender_link : List (List ℕ) → Link
+sender_link words = link_to Connect (word_at words 1)
+
 -- what is left of `receive` with its items, its deal and the slots of the items
-abbrev pub receive_rest : List (List ℕ) → ReceiverDeal → List Slot → Tree
-receive_rest xs deal slots =
-    opens
+abbrev pub receive_rest : List (List ℕ) → List (List ℕ) → ReceiverDeal → List Slot → Tree
+receive_rest words xs deal slots =
+    opens (sender_link words)
     (talks (receiver_dialogue deal (placed_of xs slots)) (λ taken. ends None (shows_and_keeps xs deal slots taken)))
 
 -- the items, the deal, the placement, the link, the session, the text and the record
-abbrev pub receive_tree : Tree
-receive_tree =
+abbrev pub receive_tree : List (List ℕ) → Tree
+receive_tree words =
     reads_items 2
-    (λ xs. reads_receiver 3 (λ deal. places 2 (placing_of deal xs) (λ slots. receive_rest xs deal slots)))
+    (λ xs. reads_receiver 3 (λ deal. places 2 (placing_of deal xs) (λ slots. receive_rest words xs deal slots)))

@@ -14,15 +14,17 @@ use Rattle.psi_spec.specs.Sessions.{dealt_masked, weave}
 use Rattle.psi_spec.specs.Streams.{sender_stream}
 use Rattle.psi_spec.specs.Texts.{lines_text}
 use Rattle.psi_words.specs.Words.{bad_word, word_at}
-use Rattle.psi_base.specs.Outside.{Known, Outside, Files, LinkFailed, Rose, printed_too, written}
+use Rattle.psi_base.specs.Outside.{Known, Outside, Files, LinkFailed, Rose, linked, opening, printed_too, written}
 use Rattle.psi_frames.specs.Dialogue.{CutOff, HeardBad, HeardShort, Talks, WereTaken, talked}
 use Rattle.psi_frames.specs.declared.turns.EndFault.TheVariants as peer
 use Rattle.psi_receiver.specs.Laws.{IsStreamFor, own_stream, receiver_dialogue}
 use Rattle.psi_words.specs.Form.{command_of}
-use Rattle.psi_top.specs.JudgedFiles.{HasBadLine, HasBadReceiverDeal, HasItems, HasReceiverDeal}
-use Rattle.psi_top.specs.Promises.{IsCalm, IsSilent}
-use Rattle.psi_top.specs.SendPromises.{AfterItems, opened}
-use Rattle.psi_top.specs.Tree.{End}
+use Rattle.psi_walk.specs.JudgedFiles.{HasBadLine, HasBadReceiverDeal, HasItems, HasReceiverDeal}
+use Rattle.psi_walk.specs.Promises.{IsCalm, IsDone, IsSilent, ReadFailed, WriteFailed}
+use Rattle.psi_top.specs.Receive.{sender_link}
+use Rattle.psi_top.specs.SendPromises.{AfterItems}
+use Rattle.psi_walk.specs.Placing.{slots_with}
+use Rattle.psi_walk.specs.Tree.{End}
 use Rattle.psi_words.specs.declared.form.Command.TheVariants.{Receive}
 use Rattle.psi_texts.specs.declared.status.Status.{Status}
 use Rattle.psi_texts.specs.declared.status.Status.TheVariants.{Done, BadItems, BadDeal, NoPlacement, BadFrame, PeerEnded, FileFault, LinkFault, PrintFault, TooLong, NoMemory}
@@ -36,8 +38,8 @@ pub record WithSet (known : Known) (words : List (List ℕ)) (before : Outside)
   pub r_file : HasReceiverDeal known words before 3 deal
   pub fact : P xs deal
 
--- both files were read and judged, the items were placed, the outcome carries that placement and no other, and a fact
--- holds of the items, the deal and the slots
+-- both files were read and judged, the items got the slots that are picked for them, which are a placement, the outcome
+-- carries it and no other, and a fact holds of the items, the deal and the slots
 pub record WithPlacement (known : Known) (words : List (List ℕ)) (before : Outside) (placed : List (List Slot))
     (P : List (List ℕ) → ReceiverDeal → List Slot → Type 0) : Type 0 where
   pub xs : List (List ℕ)
@@ -46,6 +48,7 @@ pub record WithPlacement (known : Known) (words : List (List ℕ)) (before : Out
   pub x_file : HasItems known words before 2 xs
   pub r_file : HasReceiverDeal known words before 3 deal
   pub placement : IsPlacementOf deal.stash deal.key (bins_for (length xs)) xs slots
+  pub picked : slots_with deal xs ≡ Some slots
   pub carried : placed ≡ slots ∷ []
   pub fact : P xs deal slots
 
@@ -59,9 +62,15 @@ pub record WithStream (known : Known) (before : Outside) (deal : ReceiverDeal)
   pub were_taken : WereTaken known before.incoming taken
   pub fact : P lists taken
 
+-- the outside with the link open to the sender
+abbrev pub connected : List (List ℕ) → Outside → Outside
+connected words before = linked before (sender_link words)
+
 -- the outside once a sender's stream was taken, and the receiver's own was sent
-abbrev pub exchanged : Outside → List (List ℕ) → ReceiverDeal → List Slot → List ℕ → Outside
-exchanged before xs deal slots taken = talked (opened before) (own_stream deal (placed_of xs slots)) taken
+abbrev pub exchanged
+    : List (List ℕ) → Outside → List (List ℕ) → ReceiverDeal → List Slot → List ℕ → Outside
+exchanged words before xs deal slots taken =
+    talked (connected words before) (own_stream deal (placed_of xs slots)) taken
 
 -- the items that are hit in a sender's lists, a line each
 abbrev pub hit_lines : List (List ℕ) → ReceiverDeal → List Slot → List (List (List ℕ)) → List ℕ
@@ -77,7 +86,7 @@ abbrev pub AfterSession
 AfterSession known words before placed P =
     WithPlacement known words before placed
     (λ xs deal slots. WithStream known before deal
-    (λ lists taken. P (exchanged before xs deal slots taken) (hit_lines xs deal slots lists)
+    (λ lists taken. P (exchanged words before xs deal slots taken) (hit_lines xs deal slots lists)
     (kept_record xs deal slots taken)))
 
 -- of the candidates of the items these are crowded, and name so many bins
@@ -110,29 +119,33 @@ ReceiveAnswers known words before placed (BadDeal place fault) after =
 ReceiveAnswers known words before placed (NoPlacement place items touched) after =
     (place ≡ 2) × WithSet known words before (IsCrowdedSet items touched) × IsUnplaced before placed after
 ReceiveAnswers known words before placed (FileFault place) after =
-    (((place ≡ 2) ⊎ ((place ≡ 3) × AfterItems known words before)) × IsUnplaced before placed after)
-    ⊎ ((place ≡ 4) × AfterSession known words before placed (λ mid lines file. IsSilent mid after))
+    (((place ≡ 2) ⊎ ((place ≡ 3) × AfterItems known words before)) × ReadFailed known words place
+    × IsUnplaced before placed after)
+    ⊎ ((place ≡ 4) × WriteFailed known words place
+    × AfterSession known words before placed (λ mid lines file. IsSilent mid after))
 ReceiveAnswers known words before placed (TooLong place taken) after =
     ((place ≡ 2) ⊎ ((place ≡ 3) × AfterItems known words before)) × (file_limit < taken)
     × IsUnplaced before placed after
 ReceiveAnswers known words before placed (BadFrame frame) after =
     WithPlacement known words before placed
-    (λ xs deal slots. HeardBad known (receiver_dialogue deal (placed_of xs slots)) (opened before) frame after)
+    (λ xs deal slots. HeardBad known (receiver_dialogue deal (placed_of xs slots)) (connected words before) frame after)
 ReceiveAnswers known words before placed (PeerEnded offset) after =
     WithPlacement known words before placed
-    (λ xs deal slots. HeardShort known (receiver_dialogue deal (placed_of xs slots)) (opened before) offset after)
+    (λ xs deal slots.
+    HeardShort known (receiver_dialogue deal (placed_of xs slots)) (connected words before) offset after)
 ReceiveAnswers known words before placed LinkFault after =
     WithPlacement known words before placed
-    (λ xs deal slots. IsSilent before after
-    ⊎ CutOff known (receiver_dialogue deal (placed_of xs slots)) (opened before) (λ sent mid. LinkFailed mid after))
+    (λ xs deal slots. (known.fails (opening (sender_link words)) × IsSilent before after)
+    ⊎ CutOff known (receiver_dialogue deal (placed_of xs slots)) (connected words before)
+    (λ sent mid. LinkFailed mid after))
 ReceiveAnswers known words before placed PrintFault after =
     AfterSession known words before placed (λ mid lines file. IsSilent mid after)
 ReceiveAnswers known words before placed NoMemory after =
     IsAtHelloOrCounted before after
     × (IsUnplaced before placed after
     ⊎ (WithPlacement known words before placed
-    (λ xs deal slots. IsSilent before after
-    ⊎ Talks known (receiver_dialogue deal (placed_of xs slots)) (opened before) (Err peer.NoMemory) after)
+    (λ xs deal slots. IsSilent before after ⊎ (IsSilent (connected words before) after
+    ⊎ Talks known (receiver_dialogue deal (placed_of xs slots)) (connected words before) (Err peer.NoMemory) after))
     ⊎ AfterSession known words before placed (λ mid lines file. IsSilent mid after)))
 ReceiveAnswers known words before placed _ after = ⊥
 
@@ -167,7 +180,7 @@ abbrev pub ReceiveServes : List (List ℕ) → Outside → End → Type 0
 ReceiveServes words before end =
     (files : Files) (incoming : List ℕ) → before.files ≡ Some files → before.incoming ≡ Some incoming
     → bad_word words ≡ None → command_of words ≡ Some Receive → CanReceive words files incoming
-    → IsCalm before end.left → (end.status ≡ Done) ⊎ (end.status ≡ NoMemory)
+    → IsCalm before end.left → IsDone end.status
 
 -- ---- an honest peer
 
@@ -199,12 +212,13 @@ pub record FoundCommon (known : Known) (words : List (List ℕ)) (before : Outsi
   pub x_file : HasItems known words before 2 xs
   pub r_file : HasReceiverDeal known words before 3 deal
   pub placement : IsPlacementOf deal.stash deal.key (bins_for (length xs)) xs slots
+  pub picked : slots_with deal xs ≡ Some slots
   pub carried : placed ≡ slots ∷ []
   pub taken : List ℕ
   pub were_taken : WereTaken known before.incoming taken
   pub lines : List ℕ
   pub left : after
-      ≡ written (printed_too (exchanged before xs deal slots taken) lines) (word_at words 4)
+      ≡ written (printed_too (exchanged words before xs deal slots taken) lines) (word_at words 4)
       (kept_record xs deal slots taken)
   pub honest : (sender : SenderDeal) (ys : List (List ℕ)) → IsHonest deal xs slots sender ys taken
       → ShowsCommonItems deal xs slots sender ys lines

@@ -1,8 +1,8 @@
 -- What `renew` does: it writes the deal of a file of version 1 as a file of version 2.
 use Rattle.std.specs.Prelude.{[], ◌∷◌, None}
 use Rattle.psi_deal.specs.OldDeals.{renewed}
-use Rattle.psi_top.specs.Files.{reads_old}
-use Rattle.psi_top.specs.Tree.{puts, Tree, ends}
+use Rattle.psi_walk.specs.Files.{reads_old}
+use Rattle.psi_walk.specs.Tree.{puts, Tree, ends}
 
 -- the old file is read, and the new one is written
 abbrev pub renew_tree : Tree

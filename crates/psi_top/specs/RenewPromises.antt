@@ -5,9 +5,9 @@ use Rattle.psi_base.specs.Outside.{Known, Outside, Files, written}
 use Rattle.psi_deal.specs.OldDeals.{IsOldFile, renewed}
 use Rattle.psi_deal.specs.declared.old_files.OldDeal.{OldDeal}
 use Rattle.psi_words.specs.Form.{command_of}
-use Rattle.psi_top.specs.JudgedFiles.{HasBadOldDeal, HasOldDeal}
-use Rattle.psi_top.specs.Promises.{IsCalm, IsSilent}
-use Rattle.psi_top.specs.Tree.{End}
+use Rattle.psi_walk.specs.JudgedFiles.{HasBadOldDeal, HasOldDeal}
+use Rattle.psi_walk.specs.Promises.{IsCalm, IsDone, IsSilent, ReadFailed, WriteFailed}
+use Rattle.psi_walk.specs.Tree.{End}
 use Rattle.psi_words.specs.Words.{bad_word, word_at}
 use Rattle.psi_words.specs.declared.form.Command.TheVariants.{Renew}
 use Rattle.psi_texts.specs.declared.status.Status.{Status}
@@ -38,7 +38,8 @@ abbrev pub RenewAnswers : Known → List (List ℕ) → Outside → Status → O
 RenewAnswers known words before Done after = WroteRenewed known words before after
 RenewAnswers known words before (BadDeal place fault) after = (place ≡ 1) × HasBadOldDeal known words before 1 fault
 RenewAnswers known words before (FileFault place) after =
-    (place ≡ 1) ⊎ ((place ≡ 2) × AfterOldDeal known words before)
+    ((place ≡ 1) × ReadFailed known words place)
+    ⊎ ((place ≡ 2) × WriteFailed known words place × AfterOldDeal known words before)
 RenewAnswers known words before (TooLong place taken) after = (place ≡ 1) × (file_limit < taken)
 RenewAnswers known words before NoMemory after = Unit {0}
 RenewAnswers known words before _ after = ⊥
@@ -61,6 +62,6 @@ pub record CanRenew (words : List (List ℕ)) (files : Files) : Type 0 where
 -- then `renew` is done in a calm world, or memory was wanting
 abbrev pub RenewCompletes : List (List ℕ) → Outside → End → Type 0
 RenewCompletes words before end =
-    (files : Files) (incoming : List ℕ) → before.files ≡ Some files → before.incoming ≡ Some incoming
+    (files : Files) → before.files ≡ Some files
     → bad_word words ≡ None → command_of words ≡ Some Renew → CanRenew words files
-    → IsCalm before end.left → (end.status ≡ Done) ⊎ (end.status ≡ NoMemory)
+    → IsCalm before end.left → IsDone end.status

@@ -1,26 +1,27 @@
 -- What callers read of `send`, in its own words.
-use Rattle.std.specs.Prelude.{◌≡◌, true, ◌<◌, ◌≤◌, ◌⊎◌, ℕ, List, [], ◌++◌, length, Some, None, Err}
+use Rattle.std.specs.Prelude.{◌≡◌, ◌<◌, ◌≤◌, ◌⊎◌, ℕ, List, [], ◌++◌, length, Some, None, Err}
 use Rattle.psi_spec.specs.DealFiles.{sender_bytes}
 use Rattle.psi_spec.specs.Deals.{SenderDeal, IsSenderDeal}
 use Rattle.psi_spec.specs.Items.{first_bad}
 use Rattle.psi_spec.specs.Limits.{file_limit}
 use Rattle.psi_spec.specs.Streams.{sender_stream}
 use Rattle.psi_words.specs.Words.{bad_word, word_at}
-use Rattle.psi_base.specs.Outside.{Known, Outside, Files, LinkFailed, Rose}
+use Rattle.psi_base.specs.Outside.{Known, Outside, Files, LinkFailed, Rose, linked, opening}
 use Rattle.psi_frames.specs.Dialogue.{CutOff, HeardBad, HeardShort, Talks, WereTaken, talked}
 use Rattle.psi_frames.specs.declared.turns.EndFault.TheVariants as peer
 use Rattle.psi_sender.specs.Laws.{IsStreamFor, sender_dialogue}
 use Rattle.psi_words.specs.Form.{command_of}
-use Rattle.psi_top.specs.JudgedFiles.{HasBadLine, HasBadSenderDeal, HasItems, HasSenderDeal}
-use Rattle.psi_top.specs.Promises.{IsCalm, IsSilent}
-use Rattle.psi_top.specs.Tree.{End}
+use Rattle.psi_walk.specs.JudgedFiles.{HasBadLine, HasBadSenderDeal, HasItems, HasSenderDeal}
+use Rattle.psi_walk.specs.Promises.{IsCalm, IsDone, IsSilent, ReadFailed}
+use Rattle.psi_walk.specs.Tree.{End}
+use Rattle.psi_top.specs.Send.{receiver_link}
 use Rattle.psi_words.specs.declared.form.Command.TheVariants.{Send}
 use Rattle.psi_texts.specs.declared.status.Status.{Status}
 use Rattle.psi_texts.specs.declared.status.Status.TheVariants.{Done, BadItems, BadDeal, BadFrame, PeerEnded, FileFault, LinkFault, TooLong, NoMemory}
 
--- the outside with the link open
-abbrev pub opened : Outside → Outside
-opened before = record before { ready = true }
+-- the outside with the link open to the first receiver that came to the address
+abbrev pub listening : List (List ℕ) → Outside → Outside
+listening words before = linked before (receiver_link words)
 
 -- the item file was read and has items
 abbrev pub AfterItems : Known → List (List ℕ) → Outside → Type 0
@@ -37,14 +38,14 @@ pub record WithFiles (known : Known) (words : List (List ℕ)) (before : Outside
 
 -- a receiver's stream was taken, with a count and columns, the sender's stream for them was sent, and nothing else
 -- changed
-pub record Served (known : Known) (before : Outside) (ys : List (List ℕ)) (deal : SenderDeal) (after : Outside)
-    : Type 0 where
+pub record Served (known : Known) (words : List (List ℕ)) (before : Outside) (ys : List (List ℕ)) (deal : SenderDeal)
+    (after : Outside) : Type 0 where
   pub count : ℕ
   pub columns : List (List ℕ)
   pub taken : List ℕ
   pub stream : IsStreamFor deal count columns taken
   pub were_taken : WereTaken known before.incoming taken
-  pub left : after ≡ talked (opened before) (sender_stream deal count columns ys) taken
+  pub left : after ≡ talked (listening words before) (sender_stream deal count columns ys) taken
 
 -- nothing was sent, or a refusal of the outside was counted
 abbrev pub IsEarlyOrCounted : Outside → Outside → Type 0
@@ -53,28 +54,33 @@ IsEarlyOrCounted before after = (after.outgoing ≡ before.outgoing) ⊎ Rose be
 -- what `send` may answer, and what was taken and sent at each answer, in every world: its files are judged in order,
 -- then the link is opened, and then the session is run
 abbrev pub SendAnswers : Known → List (List ℕ) → Outside → Status → Outside → Type 0
-SendAnswers known words before Done after = WithFiles known words before (λ ys deal. Served known before ys deal after)
+SendAnswers known words before Done after =
+    WithFiles known words before (λ ys deal. Served known words before ys deal after)
 SendAnswers known words before (BadItems place fault) after =
     (place ≡ 2) × HasBadLine known words before 2 fault × IsSilent before after
 SendAnswers known words before (BadDeal place fault) after =
     (place ≡ 3) × AfterItems known words before × HasBadSenderDeal known words before 3 fault × IsSilent before after
 SendAnswers known words before (FileFault place) after =
-    ((place ≡ 2) ⊎ ((place ≡ 3) × AfterItems known words before)) × IsSilent before after
+    ((place ≡ 2) ⊎ ((place ≡ 3) × AfterItems known words before)) × ReadFailed known words place
+    × IsSilent before after
 SendAnswers known words before (TooLong place taken) after =
     ((place ≡ 2) ⊎ ((place ≡ 3) × AfterItems known words before)) × (file_limit < taken) × IsSilent before after
 SendAnswers known words before (BadFrame frame) after =
-    WithFiles known words before (λ ys deal. HeardBad known (sender_dialogue deal ys) (opened before) frame after)
+    WithFiles known words before
+    (λ ys deal. HeardBad known (sender_dialogue deal ys) (listening words before) frame after)
 SendAnswers known words before (PeerEnded offset) after =
-    WithFiles known words before (λ ys deal. HeardShort known (sender_dialogue deal ys) (opened before) offset after)
+    WithFiles known words before
+    (λ ys deal. HeardShort known (sender_dialogue deal ys) (listening words before) offset after)
 SendAnswers known words before LinkFault after =
     WithFiles known words before
-    (λ ys deal. IsSilent before after
-    ⊎ CutOff known (sender_dialogue deal ys) (opened before) (λ sent mid. LinkFailed mid after))
+    (λ ys deal. (known.fails (opening (receiver_link words)) × IsSilent before after)
+    ⊎ CutOff known (sender_dialogue deal ys) (listening words before) (λ sent mid. LinkFailed mid after))
 SendAnswers known words before NoMemory after =
     IsEarlyOrCounted before after
     × (IsSilent before after
     ⊎ WithFiles known words before
-    (λ ys deal. Talks known (sender_dialogue deal ys) (opened before) (Err peer.NoMemory) after))
+    (λ ys deal. IsSilent (listening words before) after
+    ⊎ Talks known (sender_dialogue deal ys) (listening words before) (Err peer.NoMemory) after))
 SendAnswers known words before _ after = ⊥
 
 -- the same of a run, whose outcome has no placement
@@ -105,4 +111,4 @@ abbrev pub SendServes : List (List ℕ) → Outside → End → Type 0
 SendServes words before end =
     (files : Files) (incoming : List ℕ) → before.files ≡ Some files → before.incoming ≡ Some incoming
     → bad_word words ≡ None → command_of words ≡ Some Send → CanServe words files incoming → IsCalm before end.left
-    → (end.status ≡ Done) ⊎ (end.status ≡ NoMemory)
+    → IsDone end.status

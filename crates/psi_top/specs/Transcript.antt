@@ -13,7 +13,7 @@ use Rattle.psi_spec.specs.Streams.{blocks_for}
 use Rattle.psi_log.specs.Recording.{RecorderState}
 use Rattle.psi_receiver.specs.Receiving.{hits_of}
 use Rattle.psi_session.specs.Transcripts.{lists_for}
-use Rattle.psi_top.specs.Tree.{Effect, puts}
+use Rattle.psi_walk.specs.Tree.{Effect, puts}
 use Rattle.psi_top.specs.declared.transcript.SessionTranscript.{SessionTranscript}
 use Rattle.psi_top.specs.declared.playing.PlayedSession.{PlayedSession}
 

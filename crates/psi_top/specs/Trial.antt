@@ -12,9 +12,9 @@ use Rattle.psi_spec.specs.Streams.{sender_stream}
 use Rattle.psi_items.specs.Made.{made_items}
 use Rattle.psi_receiver.specs.Laws.{own_stream}
 use Rattle.psi_words.specs.Words.{number_of, seed_of, word_at}
-use Rattle.psi_top.specs.Receive.{placing_of}
+use Rattle.psi_walk.specs.Placing.{placing_of}
 use Rattle.psi_top.specs.Transcript.{receiver_size, sender_size}
-use Rattle.psi_top.specs.Tree.{says, Tree, places, ends}
+use Rattle.psi_walk.specs.Tree.{says, Tree, places, ends}
 use Rattle.psi_top.specs.declared.trial.Summary.{Summary}
 
 -- the lines of a file that `make` writes for these words with the number 0: of the first or of the second

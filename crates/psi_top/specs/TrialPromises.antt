@@ -4,11 +4,11 @@ use Rattle.sha2.specs.Sha256.{sha256}
 use Rattle.psi_spec.specs.Limits.{bins_for}
 use Rattle.psi_spec.specs.Placement.{Slot, IsPlacementOf}
 use Rattle.psi_words.specs.Words.{bad_word}
-use Rattle.psi_base.specs.Outside.{Outside, Files, printed_too}
+use Rattle.psi_base.specs.Outside.{Outside, printed_too}
 use Rattle.psi_words.specs.Form.{command_of}
-use Rattle.psi_top.specs.Promises.{IsCalm, IsSilent}
+use Rattle.psi_walk.specs.Promises.{IsCalm, IsDone, IsSilent}
 use Rattle.psi_top.specs.ReceivePromises.{IsCrowdedSet}
-use Rattle.psi_top.specs.Tree.{End}
+use Rattle.psi_walk.specs.Tree.{End}
 use Rattle.psi_top.specs.Trial.{trial_items, trial_receiver, trial_session, trial_text}
 use Rattle.psi_words.specs.declared.form.Command.TheVariants.{Trial}
 use Rattle.psi_texts.specs.declared.status.Status.{Status}
@@ -63,7 +63,5 @@ TrialPrints words before end = command_of words ≡ Some Trial → end.status �
 -- where the first list has a placement, `trial` is done in a calm world, or memory was wanting
 abbrev pub TrialCompletes : List (List ℕ) → Outside → End → Type 0
 TrialCompletes words before end =
-    (files : Files) (incoming : List ℕ) (slots : List Slot)
-    → before.files ≡ Some files → before.incoming ≡ Some incoming
-    → bad_word words ≡ None → command_of words ≡ Some Trial → IsPlacedForTrial words slots
-    → IsCalm before end.left → (end.status ≡ Done) ⊎ (end.status ≡ NoMemory)
+    (slots : List Slot) → bad_word words ≡ None → command_of words ≡ Some Trial → IsPlacedForTrial words slots
+    → IsCalm before end.left → IsDone end.status

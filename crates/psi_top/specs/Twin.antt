@@ -9,13 +9,12 @@ use Rattle.psi_spec.specs.Limits.{rows_for}
 use Rattle.psi_spec.specs.Meeting.{Placed, placed_of}
 use Rattle.psi_spec.specs.Placement.{Slot}
 use Rattle.psi_spec.specs.Streams.{columns_stream, dealt_sets, receiver_stream}
-use Rattle.psi_base.specs.Outside.{Outside}
 use Rattle.psi_deal.specs.Differences.{first_difference}
 use Rattle.psi_deal.specs.declared.errors.DealField.{DealField}
-use Rattle.psi_top.specs.Files.{reads_items, reads_receiver, reads_sender}
-use Rattle.psi_top.specs.Receive.{placing_of}
-use Rattle.psi_top.specs.Tree.{Effect, puts, Placing, Tree, decides, places, ends, End, stopped, with_slots}
-use Rattle.psi_top.specs.Walk.{Places}
+use Rattle.psi_walk.specs.Files.{reads_items, reads_receiver, reads_sender}
+use Rattle.psi_walk.specs.Placing.{placing_of}
+use Rattle.psi_walk.specs.Tree.{Effect, puts, Placing, Tree, decides, places, ends}
+use Rattle.psi_walk.specs.Walk.{Places}
 use Rattle.psi_texts.specs.declared.status.Status.{Status}
 use Rattle.psi_texts.specs.declared.status.Status.TheVariants.{DealsDiffer, SizesDiffer}
 
@@ -91,8 +90,3 @@ twin_tree =
 abbrev pub PlacesAnd : {A : Type 0} → ℕ → Placing → Result (List Slot × A) Status → Type 0
 PlacesAnd word set (Ok made) = Places word set (Ok made.0)
 PlacesAnd word set (Err why) = Places word set (Err why)
-
--- how a run ended from the second set on, with its placement, where it was placed, and a status
-abbrev pub second_end : Result (List Slot × Status) Status → Outside → End
-second_end (Ok ended) after = with_slots ended.0 (stopped ended.1 after)
-second_end (Err why) after = stopped why after

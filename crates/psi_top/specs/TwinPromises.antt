@@ -15,11 +15,11 @@ use Rattle.psi_base.specs.Outside.{Known, Outside, Files, written}
 use Rattle.psi_deal.specs.Differences.{first_difference}
 use Rattle.psi_top.specs.AuditPromises.{AfterDeal, AfterList, AfterLists}
 use Rattle.psi_words.specs.Form.{command_of}
-use Rattle.psi_top.specs.JudgedFiles.{HasBadLine, HasBadReceiverDeal, HasBadSenderDeal, HasItems, HasReceiverDeal, HasSenderDeal}
+use Rattle.psi_walk.specs.JudgedFiles.{HasBadLine, HasBadReceiverDeal, HasBadSenderDeal, HasItems, HasReceiverDeal, HasSenderDeal}
 use Rattle.psi_top.specs.LocalPromises.{HasList, OnFirstOrSecond}
-use Rattle.psi_top.specs.Promises.{IsCalm, IsSilent}
+use Rattle.psi_walk.specs.Promises.{IsCalm, IsDone, IsSilent, ReadFailed, WriteFailed}
 use Rattle.psi_top.specs.ReceivePromises.{IsCrowdedSet}
-use Rattle.psi_top.specs.Tree.{End}
+use Rattle.psi_walk.specs.Tree.{End}
 use Rattle.psi_top.specs.Twin.{dealt_for}
 use Rattle.psi_words.specs.declared.form.Command.TheVariants.{Twin}
 use Rattle.psi_texts.specs.declared.status.Status.{Status}
@@ -77,11 +77,12 @@ CarriesBoth t placed =
 abbrev pub WerePlaced : Known → List (List ℕ) → Outside → List (List Slot) → Type 0
 WerePlaced known words before placed = OnTwins known words before (λ t. AreTwins t × CarriesBoth t placed)
 
--- one of both lists has no placement: the first, and nothing is placed, or the second, and the first is
-abbrev pub IsUnplacedIn : ℕ → List ℕ → ℕ → List (List Slot) → Twins → Type 0
-IsUnplacedIn place items touched placed t =
-    ((place ≡ 1) × IsCrowdedSet items touched t.xs t.receiver × (placed ≡ []))
-    ⊎ ((place ≡ 2) × IsCrowdedSet items touched t.others t.receiver × CarriesFirst t placed)
+-- one of both lists has no placement: the first, or the second where the first has one
+abbrev pub IsUnplacedIn : ℕ → List ℕ → ℕ → Twins → Type 0
+IsUnplacedIn place items touched t =
+    ((place ≡ 1) × IsCrowdedSet items touched t.xs t.receiver)
+    ⊎ ((place ≡ 2) × IsCrowdedSet items touched t.others t.receiver
+    × ((slots : List Slot) × IsPlacedWith t.receiver t.xs slots))
 
 -- ---- what it may answer
 
@@ -103,10 +104,10 @@ TwinAnswers known words before placed (SizesDiffer first second) =
     (λ t. ArePair t.receiver t.sender × (first ≡ length t.xs) × (second ≡ length t.others) × (first ≢ second))
     × (placed ≡ [])
 TwinAnswers known words before placed (NoPlacement place items touched) =
-    OnTwins known words before (λ t. AreTwins t × IsUnplacedIn place items touched placed t)
+    OnTwins known words before (λ t. AreTwins t × IsUnplacedIn place items touched t) × (placed ≡ [])
 TwinAnswers known words before placed (FileFault place) =
-    (IsDueInput known words before place × (placed ≡ []))
-    ⊎ (((place ≡ 5) ⊎ (place ≡ 6)) × WerePlaced known words before placed)
+    (IsDueInput known words before place × ReadFailed known words place × (placed ≡ []))
+    ⊎ (((place ≡ 5) ⊎ (place ≡ 6)) × WriteFailed known words place × WerePlaced known words before placed)
 TwinAnswers known words before placed (TooLong place taken) =
     IsDueInput known words before place × (file_limit < taken) × (placed ≡ [])
 TwinAnswers known words before placed NoMemory =
@@ -185,6 +186,6 @@ pub record CanTwin (words : List (List ℕ)) (files : Files) : Type 0 where
 -- then `twin` is done in a calm world, or memory was wanting
 abbrev pub TwinCompletes : List (List ℕ) → Outside → End → Type 0
 TwinCompletes words before end =
-    (files : Files) (incoming : List ℕ) → before.files ≡ Some files → before.incoming ≡ Some incoming
+    (files : Files) → before.files ≡ Some files
     → bad_word words ≡ None → command_of words ≡ Some Twin → CanTwin words files
-    → IsCalm before end.left → (end.status ≡ Done) ⊎ (end.status ≡ NoMemory)
+    → IsCalm before end.left → IsDone end.status

@@ -4,19 +4,20 @@ ghost use Rattle.psi_spec.specs.Frames.{AreBytes};
 ghost use Rattle.psi_spec.specs.Limits.{record_limit};
 ghost use Rattle.std.specs.Prelude.{◌≤◌, List, ℕ, length};
 ghost use Rattle.psi_top.specs.Audit.{audit_record, audit_session, audit_tree, findings_of};
-ghost use Rattle.psi_top.specs.Files.{record_in};
-ghost use Rattle.psi_top.specs.Tree.{decides, end_of, ended};
-ghost use Rattle.psi_top.specs.Walk.{Runs, Settles};
+ghost use Rattle.psi_walk.specs.Files.{record_in};
+ghost use Rattle.psi_walk.specs.Tree.{decides, end_of, ended};
+ghost use Rattle.psi_walk.specs.Walk.{Runs, Settles};
 
 use crate::findings::{Findings, print_findings};
-use crate::outcome::{Outcome, outcome_of};
-use crate::steps::{judge_record, read_bytes, read_items, read_receiver_deal, read_sender_deal};
 use psi_audit::{Verdict, audit};
 use psi_base::{RECORD_LIMIT, Words, World};
 use psi_deal::{ReceiverDeal, SenderDeal};
 use psi_items::Items;
 use psi_log::LoggedSession;
 use psi_texts::Status;
+use psi_walk::{
+    Outcome, judge_record, outcome_of, read_bytes, read_items, read_receiver_deal, read_sender_deal,
+};
 use std::alloc::Global;
 
 // What the session shows that is recorded, or why the record is not that of these inputs.
@@ -48,7 +49,7 @@ fn judge_session(
 }
 
 // What `audit` does once all files are read: the bytes are those of the record.
-#[tactic(auto, using(crate::proofs::Walks::walk))]
+#[tactic(auto, using(psi_walk::proofs::Walks::walk))]
 fn audit_bytes<W: World>(
     alloc: Global,
     x: &Items,
@@ -72,7 +73,7 @@ fn audit_bytes<W: World>(
 }
 
 // What `audit` does once the lists and the deals are read.
-#[tactic(auto, using(crate::proofs::Walks::walk))]
+#[tactic(auto, using(psi_walk::proofs::Walks::walk))]
 fn audit_record<W: World>(
     alloc: Global,
     words: &Words,
@@ -90,7 +91,7 @@ fn audit_record<W: World>(
 }
 
 // What `audit` does. A refusal before there is an outcome is answered as an error.
-#[tactic(auto, using(crate::proofs::Walks::walk))]
+#[tactic(auto, using(psi_walk::proofs::Walks::walk))]
 fn audit_steps<W: World>(alloc: Global, words: &Words, world: &mut W) -> Result<Outcome, Status>
     ensures { Runs W.known words.now audit_tree (W.outside world.old) (end_of result (W.outside world.new)) }
 {

@@ -4,14 +4,13 @@ ghost use Rattle.psi_spec.specs.DealFiles.{receiver_bytes, sender_bytes};
 ghost use Rattle.psi_words.specs.Words.{bad_word};
 ghost use Rattle.psi_top.specs.Deal.{deal_receiver, deal_sender, deal_tree};
 ghost use Rattle.psi_words.specs.Form.{command_of};
-ghost use Rattle.psi_top.specs.Tree.{end_of, ended};
-ghost use Rattle.psi_top.specs.Walk.{Runs};
+ghost use Rattle.psi_walk.specs.Tree.{end_of, ended};
+ghost use Rattle.psi_walk.specs.Walk.{Runs};
 
-use crate::outcome::{Outcome, outcome_of};
-use crate::steps::write_word;
 use psi_base::{NoMemory, Words, World};
 use psi_deal::{ReceiverDeal, SenderDeal, deal, write_receiver, write_sender};
 use psi_texts::Status;
+use psi_walk::{Outcome, outcome_of, write_word};
 use psi_words::{Command, seed_of, session_of, sizes_of, word_at};
 use std::alloc::Global;
 
@@ -30,7 +29,7 @@ fn named_deals(alloc: Global, words: &Words) -> Result<(ReceiverDeal, SenderDeal
 }
 
 // What `deal` does. A refusal before there is an outcome is answered as an error.
-#[tactic(auto, using(crate::proofs::Walks::walk))]
+#[tactic(auto, using(psi_walk::proofs::Walks::walk))]
 fn deal_steps<W: World>(alloc: Global, words: &Words, world: &mut W) -> Result<Outcome, Status>
     requires fit { bad_word words.now ≡ None }
     requires named { command_of words.now ≡ Some Command.Deal }

@@ -3,13 +3,15 @@ ghost use Rattle.psi_words.specs.Words.{bad_word};
 ghost use Rattle.psi_top.specs.AuditPromises.{AuditCompletes, IsOfAudit};
 ghost use Rattle.psi_top.specs.Commands.{Answers};
 ghost use Rattle.psi_top.specs.Deal.{DealWrites};
+ghost use Rattle.psi_top.specs.HidingPromises.{ReceiveHides};
 ghost use Rattle.psi_top.specs.LocalPromises.{IsOfLocal, IsWired, LocalCompletes, LocalShows};
 ghost use Rattle.psi_top.specs.Make.{MakeWrites};
-ghost use Rattle.psi_top.specs.Promises.{Completes, CountsBy, DoneLeaves, IsBadWords, IsDue, IsOfCommand, OnTold, RunsThrough, StandsAt};
+ghost use Rattle.psi_walk.specs.Promises.{Completes, IsDue, StandsAt};
+ghost use Rattle.psi_top.specs.Promises.{CountsBy, DoneLeaves, IsBadWords, IsOfCommand, OnTold, RunsThrough};
 ghost use Rattle.psi_top.specs.ReceivePromises.{IsOfReceive, ReceiveFinds, ReceiveServes};
 ghost use Rattle.psi_top.specs.RenewPromises.{IsOfRenew, RenewCompletes, RenewWrites};
 ghost use Rattle.psi_top.specs.SendPromises.{IsOfSend, SendServes};
-ghost use Rattle.psi_top.specs.Tree.{ended};
+ghost use Rattle.psi_walk.specs.Tree.{ended};
 ghost use Rattle.psi_top.specs.TrialPromises.{IsOfTrial, TrialCompletes, TrialPrints};
 ghost use Rattle.psi_top.specs.TwinPromises.{IsOfTwin, TwinCompletes, TwinHides};
 
@@ -17,7 +19,6 @@ use crate::audit::audit_command;
 use crate::deal::deal_command;
 use crate::local::local_command;
 use crate::make::make_command;
-use crate::outcome::Outcome;
 use crate::receive::receive_command;
 use crate::renew::renew_command;
 use crate::send::send_command;
@@ -25,6 +26,7 @@ use crate::trial::trial_command;
 use crate::twin::twin_command;
 use psi_base::{Words, World};
 use psi_texts::Status;
+use psi_walk::Outcome;
 use psi_words::{Command, bad_word, named_command};
 use std::alloc::Global;
 
@@ -65,12 +67,12 @@ pub fn run<W: World>(alloc: Global, words: &Words, world: &mut W) -> Outcome
     // of the outcome, for which the status follows, and what was sent and taken over the link.
     ensures status { IsOfCommand W.known words.now (W.outside world.old) (ended result (W.outside world.new)) }
 
-    // Where the contents are told, each refusal comes only where it is due, in the order of the steps.
-    ensures exact { OnTold words.now (W.outside world.old) (ended result (W.outside world.new)).placed
-        (IsDue result.status) }
+    // Where the contents that decide are told, each refusal comes only where it is due, in the order of the steps: the
+    // files where the command reads one, and the incoming bytes where it runs a session over the link.
+    ensures exact { OnTold words.now (W.outside world.old) (IsDue result.status) }
 
     // Where no fault was counted or the world is steady, what is due is answered, or memory was wanting.
-    ensures complete { OnTold words.now (W.outside world.old) (ended result (W.outside world.new)).placed
+    ensures complete { OnTold words.now (W.outside world.old)
         (Completes (W.outside world.old) result.status (W.outside world.new)) }
 
     // From valid files the run is done in such a world, or memory was wanting.
@@ -78,7 +80,7 @@ pub fn run<W: World>(alloc: Global, words: &Words, world: &mut W) -> Outcome
 
     // Nothing is printed or written before all is read; then each effect is whole, in part or not begun, in order: all
     // of them where the run is done, and those before the one that failed where one did.
-    ensures stands { OnTold words.now (W.outside world.old) (ended result (W.outside world.new)).placed
+    ensures stands { OnTold words.now (W.outside world.old)
         (StandsAt words.now (W.outside world.old) result.status (W.outside world.new)) }
 
     // What a run that is done read and left, in every world.
@@ -124,6 +126,12 @@ pub fn run<W: World>(alloc: Global, words: &Words, world: &mut W) -> Outcome
     // For an honest peer, whatever its list, `receive` prints every common item, and each other printed item shares its
     // tag with a named sender item.
     ensures found { ReceiveFinds W.known words.now (W.outside world.old) (ended result (W.outside world.new)) }
+
+    // However `receive` ends, it sent a front of the one stream of its list, in the slots that are picked for it, over
+    // the columns of its deal. And whatever other list with as many items that has a placement: over all columns there
+    // is a change, its own inverse and the same for all of them, that keeps each column that the sender chose, and over
+    // the changed columns a receiver of the other list sends byte for byte the same.
+    ensures hides { ReceiveHides W.known words.now (W.outside world.old) (ended result (W.outside world.new)) }
 
     // `make` writes the two made files, and changes nothing else.
     ensures made { MakeWrites words.now (W.outside world.old) (ended result (W.outside world.new)) }

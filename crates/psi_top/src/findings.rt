@@ -2,8 +2,8 @@
 ghost use Rattle.std.specs.Prelude.{◌≡◌, ◌≤◌, ◌++◌, Bool, List, ℕ, codes, length};
 ghost use Rattle.psi_base.specs.Outside.{PrintsAll};
 ghost use Rattle.psi_top.specs.Audit.{audit_text, collision_line, collision_lines, number_line};
-ghost use Rattle.psi_top.specs.Tree.{says};
-ghost use Rattle.psi_top.specs.Walk.{Makes};
+ghost use Rattle.psi_walk.specs.Tree.{says};
+ghost use Rattle.psi_walk.specs.Walk.{Makes};
 
 use psi_base::{Fault, Pairs, Places, World, print_all};
 use psi_texts::{Line, Status};

@@ -9,20 +9,18 @@ ghost use Rattle.psi_words.specs.Form.{command_of};
 ghost use Rattle.psi_top.specs.Local.{local_receiver, local_sender, local_set, local_tree};
 ghost use Rattle.psi_top.specs.Receive.{marked};
 ghost use Rattle.psi_top.specs.Transcript.{writes};
-ghost use Rattle.psi_top.specs.Tree.{closed, end_of, ended, ends, says};
-ghost use Rattle.psi_top.specs.Walk.{Follows, MakesAll, Runs};
+ghost use Rattle.psi_walk.specs.Tree.{closed, end_of, ended, ends, says};
+ghost use Rattle.psi_walk.specs.Walk.{Follows, MakesAll, Runs};
 
-use crate::outcome::{Outcome, outcome_of};
-use crate::placing::place_items;
 use crate::playing::{PlayedSession, placed_outcome, play, session_length};
 use crate::showing::print_shown;
-use crate::steps::{read_items, write_word};
 use crate::transcript::begin_record;
 use psi_base::{NoMemory, Words, World};
 use psi_deal::{ReceiverDeal, SenderDeal, deal};
 use psi_items::Items;
 use psi_log::{Recorder, write_record};
 use psi_texts::Status;
+use psi_walk::{Outcome, outcome_of, place_items, read_items, write_word};
 use psi_words::{Command, seed_of, session_of, sizes_of, word_at};
 use std::alloc::Global;
 
@@ -73,7 +71,7 @@ fn show_and_keep<W: World>(
 }
 
 // What `local` does once its files are read.
-#[tactic(auto, using(crate::proofs::Walks::walk))]
+#[tactic(auto, using(psi_walk::proofs::Walks::walk))]
 fn place_and_play<W: World>(
     alloc: Global,
     words: &Words,
@@ -97,7 +95,7 @@ fn place_and_play<W: World>(
 }
 
 // What `local` does. A refusal before there is an outcome is answered as an error.
-#[tactic(auto, using(crate::proofs::Walks::walk))]
+#[tactic(auto, using(psi_walk::proofs::Walks::walk))]
 fn local_steps<W: World>(alloc: Global, words: &Words, world: &mut W) -> Result<Outcome, Status>
     requires fit { bad_word words.now ≡ None }
     requires named { command_of words.now ≡ Some Command.Local }

@@ -3,19 +3,18 @@ ghost use Rattle.std.specs.Prelude.{◌≡◌, None, Some};
 ghost use Rattle.psi_words.specs.Words.{bad_word};
 ghost use Rattle.psi_words.specs.Form.{command_of};
 ghost use Rattle.psi_top.specs.Make.{make_tree};
-ghost use Rattle.psi_top.specs.Tree.{end_of, ended};
-ghost use Rattle.psi_top.specs.Walk.{Runs};
+ghost use Rattle.psi_walk.specs.Tree.{end_of, ended};
+ghost use Rattle.psi_walk.specs.Walk.{Runs};
 
-use crate::outcome::{Outcome, outcome_of};
-use crate::steps::write_word;
 use psi_base::{Words, World};
 use psi_items::{MadeFile, make_file};
 use psi_texts::Status;
+use psi_walk::{Outcome, outcome_of, write_word};
 use psi_words::{Command, counts_of, session_of, word_at};
 use std::alloc::Global;
 
 // What `make` does. A refusal before there is an outcome is answered as an error.
-#[tactic(auto, using(crate::proofs::Walks::walk))]
+#[tactic(auto, using(psi_walk::proofs::Walks::walk))]
 fn make_steps<W: World>(alloc: Global, words: &Words, world: &mut W) -> Result<Outcome, Status>
     requires fit { bad_word words.now ≡ None }
     requires named { command_of words.now ≡ Some Command.Make }

@@ -5,10 +5,9 @@ ghost use Rattle.psi_spec.specs.Formulas.{item_digest};
 ghost use Rattle.psi_spec.specs.Limits.{bins_for, limit_items};
 ghost use Rattle.psi_spec.specs.Placement.{IsPlacementOf};
 ghost use Rattle.psi_top.specs.Transcript.{IsPlayed, log_of, receiver_size, sender_size};
-ghost use Rattle.psi_top.specs.Tree.{closed, ended, with_slots};
+ghost use Rattle.psi_walk.specs.Tree.{carrying, closed, ended};
 ghost use Rattle.psi_base.specs.Outside.{Outside};
 
-use crate::outcome::Outcome;
 use crate::transcript::SessionTranscript;
 use psi_base::{NoMemory, rows};
 use psi_cuckoo::Placement;
@@ -19,6 +18,7 @@ use psi_receiver::ReceiverCore;
 use psi_sender::SenderCore;
 use psi_session::exchange;
 use psi_texts::Status;
+use psi_walk::Outcome;
 use std::alloc::Global;
 
 /// The most tags of a frame.
@@ -92,7 +92,7 @@ pub fn play<'a>(
 
 /// How a run ended that placed a set: the rest of it was done, with the digest of its session, or refused.
 pub fn placed_outcome(placement: Placement, rest: Result<[u8; 32], Status>) -> Outcome
-    ensures { (after : Outside) → ended result after ≡ with_slots placement (closed rest after) }
+    ensures { (after : Outside) → ended result after ≡ carrying placement (closed rest after) }
 {
     let placement = Some(placement);
     match rest {

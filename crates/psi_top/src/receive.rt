@@ -10,15 +10,13 @@ ghost use Rattle.psi_spec.specs.Records.{record_front};
 ghost use Rattle.psi_spec.specs.Texts.{lines_text};
 ghost use Rattle.psi_receiver.specs.Laws.{receiver_dialogue};
 ghost use Rattle.psi_receiver.specs.Running.{IsNewReceiver};
-ghost use Rattle.psi_top.specs.Receive.{IsHeard, marked, placing_of, receive_rest, receive_tree};
-ghost use Rattle.psi_top.specs.Tree.{end_of, ended, ends, places, puts, says, stopped};
-ghost use Rattle.psi_top.specs.Walk.{Follows, Runs, StepsTalk, status_of};
+ghost use Rattle.psi_top.specs.Receive.{IsHeard, marked, receive_rest, receive_tree};
+ghost use Rattle.psi_walk.specs.Placing.{placing_of};
+ghost use Rattle.psi_walk.specs.Tree.{end_of, ended, ends, places, puts, says, stopped};
+ghost use Rattle.psi_walk.specs.Walk.{Follows, Runs, StepsTalk, status_of};
 ghost use Rattle.psi_texts.specs.declared.status.Status.TheVariants as status;
 
-use crate::outcome::{Outcome, outcome_of};
-use crate::placing::place_items;
 use crate::showing::print_shown;
-use crate::steps::{open_link, read_items, read_receiver_deal, session_status, status, write_word};
 use psi_base::{Side, Words, World};
 use psi_cuckoo::Placement;
 use psi_deal::ReceiverDeal;
@@ -26,6 +24,10 @@ use psi_items::Items;
 use psi_log::{Recorder, write_record};
 use psi_receiver::{LoggedReceiver, ReceiverCore, run_receiver};
 use psi_texts::Status;
+use psi_walk::{
+    Outcome, open_link, outcome_of, place_items, read_items, read_receiver_deal, session_status,
+    status, write_word,
+};
 use std::alloc::Global;
 
 // The receiver's end, with the record of its placement and no frame yet.
@@ -88,7 +90,7 @@ fn show_and_keep<W: World>(
 }
 
 // What `receive` does once its items are placed.
-#[tactic(auto, using(crate::proofs::Walks::walk))]
+#[tactic(auto, using(psi_walk::proofs::Walks::walk))]
 fn receive_rest<W: World>(
     alloc: Global,
     words: &Words,
@@ -101,7 +103,7 @@ fn receive_rest<W: World>(
     requires digests { digests.now ≡ map item_digest items.now }
     requires deal { IsReceiverDeal deal.now }
     requires placed { IsPlacementOf deal.now.stash deal.now.key (bins_for (length items.now)) items.now placement.now }
-    ensures { Runs W.known words.now (receive_rest items.now deal.now placement.now) (W.outside world.old)
+    ensures { Runs W.known words.now (receive_rest words.now items.now deal.now placement.now) (W.outside world.old)
         (stopped (status_of result) (W.outside world.new)) }
 {
     let mut end = new_end(alloc, items, digests, deal, placement)?;
@@ -111,7 +113,7 @@ fn receive_rest<W: World>(
 }
 
 // What `receive` does once its files are read.
-#[tactic(auto, using(crate::proofs::Walks::walk))]
+#[tactic(auto, using(psi_walk::proofs::Walks::walk))]
 fn place_and_receive<W: World>(
     alloc: Global,
     words: &Words,
@@ -121,7 +123,7 @@ fn place_and_receive<W: World>(
 ) -> Result<Outcome, Status>
     requires { IsReceiverDeal deal.now }
     ensures { Runs W.known words.now
-        (places 2 (placing_of deal.now items.now) (λ slots. receive_rest items.now deal.now slots))
+        (places 2 (placing_of deal.now items.now) (λ slots. receive_rest words.now items.now deal.now slots))
         (W.outside world.old) (end_of result (W.outside world.new)) }
 {
     let digests = items.digests(alloc)?;
@@ -136,9 +138,10 @@ fn place_and_receive<W: World>(
 }
 
 // What `receive` does. A refusal before there is an outcome is answered as an error.
-#[tactic(auto, using(crate::proofs::Walks::walk))]
+#[tactic(auto, using(psi_walk::proofs::Walks::walk))]
 fn receive_steps<W: World>(alloc: Global, words: &Words, world: &mut W) -> Result<Outcome, Status>
-    ensures { Runs W.known words.now receive_tree (W.outside world.old) (end_of result (W.outside world.new)) }
+    ensures { Runs W.known words.now (receive_tree words.now) (W.outside world.old)
+        (end_of result (W.outside world.new)) }
 {
     let items = read_items(alloc, words, 2, world)?;
     let deal = read_receiver_deal(alloc, words, 3, world)?;
@@ -151,7 +154,8 @@ fn receive_steps<W: World>(alloc: Global, words: &Words, world: &mut W) -> Resul
 /// The words are `receive ADDR XFILE RFILE RECORD`: the address, the file of the receiver's items, its deal file, and
 /// the file of the record. Each shown item is printed with a line feed behind it.
 pub fn receive_command<W: World>(alloc: Global, words: &Words, world: &mut W) -> Outcome
-    ensures { Runs W.known words.now receive_tree (W.outside world.old) (ended result (W.outside world.new)) }
+    ensures { Runs W.known words.now (receive_tree words.now) (W.outside world.old)
+        (ended result (W.outside world.new)) }
 {
     outcome_of(receive_steps(alloc, words, world))
 }

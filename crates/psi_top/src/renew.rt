@@ -1,16 +1,15 @@
 // A deal file of version 1, made anew.
 ghost use Rattle.psi_top.specs.Renew.{renew_tree};
-ghost use Rattle.psi_top.specs.Tree.{end_of, ended};
-ghost use Rattle.psi_top.specs.Walk.{Runs};
+ghost use Rattle.psi_walk.specs.Tree.{end_of, ended};
+ghost use Rattle.psi_walk.specs.Walk.{Runs};
 
-use crate::outcome::{Outcome, outcome_of};
-use crate::steps::{read_old_deal, write_word};
 use psi_base::{Words, World};
 use psi_texts::Status;
+use psi_walk::{Outcome, outcome_of, read_old_deal, write_word};
 use std::alloc::Global;
 
 // What `renew` does. A refusal before there is an outcome is answered as an error.
-#[tactic(auto, using(crate::proofs::Walks::walk))]
+#[tactic(auto, using(psi_walk::proofs::Walks::walk))]
 fn renew_steps<W: World>(alloc: Global, words: &Words, world: &mut W) -> Result<Outcome, Status>
     ensures { Runs W.known words.now renew_tree (W.outside world.old) (end_of result (W.outside world.new)) }
 {

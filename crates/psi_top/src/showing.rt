@@ -3,8 +3,8 @@ ghost use Rattle.std.specs.Prelude.{◌≡◌, ◌∷◌, ◌++◌, [], Bool, Li
 ghost use Rattle.psi_spec.specs.Texts.{lines_text};
 ghost use Rattle.psi_base.specs.Outside.{PrintsAll};
 ghost use Rattle.psi_top.specs.Receive.{marked};
-ghost use Rattle.psi_top.specs.Tree.{says};
-ghost use Rattle.psi_top.specs.Walk.{Makes};
+ghost use Rattle.psi_walk.specs.Tree.{says};
+ghost use Rattle.psi_walk.specs.Walk.{Makes};
 
 use psi_base::{Fault, World, print_all};
 use psi_items::Items;

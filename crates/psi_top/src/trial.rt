@@ -8,19 +8,17 @@ ghost use Rattle.psi_items.specs.Made.{made_items};
 ghost use Rattle.psi_items.specs.Making.{is_second};
 ghost use Rattle.psi_words.specs.Words.{bad_word};
 ghost use Rattle.psi_words.specs.Form.{command_of};
-ghost use Rattle.psi_top.specs.Tree.{closed, end_of, ended, ends, says};
+ghost use Rattle.psi_walk.specs.Tree.{closed, end_of, ended, ends, says};
 ghost use Rattle.psi_top.specs.Trial.{measured, numbered, summary_text, trial_receiver, trial_sender, trial_set, trial_tree};
-ghost use Rattle.psi_top.specs.Walk.{Runs};
+ghost use Rattle.psi_walk.specs.Walk.{Runs};
 
-use crate::outcome::{Outcome, outcome_of};
-use crate::placing::place_items;
 use crate::playing::{PlayedSession, placed_outcome, play, receiver_length, sender_length};
-use crate::steps::print_text;
 use itoa::Buffer;
 use psi_base::{NoMemory, USUAL_STASH, Words, World, bins, rows};
 use psi_deal::{ReceiverDeal, SenderDeal, deal};
 use psi_items::{Items, MadeFile, make_file};
 use psi_texts::Status;
+use psi_walk::{Outcome, outcome_of, place_items, print_text};
 use psi_words::{Command, counts_of, seed_of, word_at};
 use std::alloc::{AllocError, Global};
 
@@ -131,7 +129,7 @@ fn print_summary<W: World>(
 }
 
 // What `trial` does with both lists.
-#[tactic(auto, using(crate::proofs::Walks::walk))]
+#[tactic(auto, using(psi_walk::proofs::Walks::walk))]
 fn place_and_try<W: World>(
     alloc: Global,
     words: &Words,
@@ -156,7 +154,7 @@ fn place_and_try<W: World>(
 }
 
 // What `trial` does. A refusal before there is an outcome is answered as an error.
-#[tactic(auto, using(crate::proofs::Walks::walk), unfolding(crate::specs::Trial::trial_items))]
+#[tactic(auto, using(psi_walk::proofs::Walks::walk), unfolding(crate::specs::Trial::trial_items))]
 fn trial_steps<W: World>(alloc: Global, words: &Words, world: &mut W) -> Result<Outcome, Status>
     requires fit { bad_word words.now ≡ None }
     requires named { command_of words.now ≡ Some Command.Trial }

@@ -5,15 +5,12 @@ ghost use Rattle.psi_spec.specs.Meeting.{placed_of};
 ghost use Rattle.psi_spec.specs.Placement.{IsPlacementOf};
 ghost use Rattle.psi_spec.specs.Streams.{words_of};
 ghost use Rattle.psi_base.specs.Outside.{Outside};
-ghost use Rattle.psi_top.specs.Receive.{placing_of};
-ghost use Rattle.psi_top.specs.Tree.{end_of, ended, ends, places, stopped, with_slots};
-ghost use Rattle.psi_top.specs.Twin.{PlacesAnd, files_of_words, second_end, twin_sets, twin_tree, twins_in};
-ghost use Rattle.psi_top.specs.Walk.{Runs, Settles, status_of};
+ghost use Rattle.psi_walk.specs.Placing.{placing_of};
+ghost use Rattle.psi_walk.specs.Tree.{end_of, ended, ends, stopped};
+ghost use Rattle.psi_top.specs.Twin.{PlacesAnd, files_of_words, twin_sets, twin_tree, twins_in};
+ghost use Rattle.psi_walk.specs.Walk.{Runs, Settles, status_of};
 
 use crate::hiding::twin_files;
-use crate::outcome::{Outcome, outcome_of};
-use crate::placing::place_items;
-use crate::steps::{read_items, read_receiver_deal, read_sender_deal, status, write_word};
 use psi_base::{Words, World, rows};
 use psi_bits::Rows;
 use psi_cuckoo::Placement;
@@ -21,6 +18,10 @@ use psi_deal::{ReceiverDeal, SenderDeal, deals_differ};
 use psi_items::Items;
 use psi_receiver::row_words;
 use psi_texts::Status;
+use psi_walk::{
+    Outcome, outcome_of, place_items, read_items, read_receiver_deal, read_sender_deal, status,
+    write_word,
+};
 use std::alloc::Global;
 
 // Judges whether the deals are a pair, and both lists have one number of items.
@@ -81,46 +82,8 @@ fn write_files<W: World>(
     Ok(())
 }
 
-// What `twin` does once its first set is placed, which has these words in its rows: places the second, which has as
-// many items, and writes both files. It answers the second placement and how the rest ended, or why there is none.
-fn place_second<W: World>(
-    alloc: Global,
-    words: &Words,
-    others: &Items,
-    deals: &(ReceiverDeal, SenderDeal),
-    first: Rows,
-    world: &mut W,
-) -> Result<(Placement, Status), Status>
-    requires { length first ≡ rows_for deals.now.0.stash (length others.now) }
-    ensures { Runs W.known words.now
-        (places 2 (placing_of deals.now.0 others.now) (λ slots. ends None
-        (files_of_words deals.now.0 deals.now.1 (length others.now) first
-        (words_of deals.now.0 (placed_of others.now slots)))))
-        (W.outside world.old) (second_end result (W.outside world.new)) }
-{
-    let (placement, second) = placed_words(alloc, 2, others, &deals.0)?;
-    let rest = write_files(alloc, words, deals, others.len(), first, second, world);
-    Ok((placement, status(rest)))
-}
-
-// How a run ended that placed a first set, and went on from the second so.
-fn twin_outcome(placement: Placement, rest: Result<(Placement, Status), Status>) -> Outcome
-    ensures { (after : Outside) → ended result after ≡ with_slots placement (second_end rest after) }
-{
-    let (other, status) = match rest {
-        Ok((other, status)) => (Some(other), status),
-        Err(status) => (None, status),
-    };
-    Outcome {
-        status,
-        placement: Some(placement),
-        second: other,
-        wire: None,
-    }
-}
-
 // What `twin` does once all is read.
-#[tactic(auto, using(crate::proofs::Walks::walk))]
+#[tactic(auto, using(psi_walk::proofs::Walks::walk))]
 fn judge_and_place<W: World>(
     alloc: Global,
     words: &Words,
@@ -134,12 +97,18 @@ fn judge_and_place<W: World>(
 {
     judge_twins(x, others, deals)?;
     let (placement, first) = placed_words(alloc, 1, x, &deals.0)?;
-    let rest = place_second(alloc, words, others, deals, first, world);
-    Ok(twin_outcome(placement, rest))
+    let (other, second) = placed_words(alloc, 2, others, &deals.0)?;
+    let rest = write_files(alloc, words, deals, x.len(), first, second, world);
+    Ok(Outcome {
+        status: status(rest),
+        placement: Some(placement),
+        second: Some(other),
+        wire: None,
+    })
 }
 
 // What `twin` does. A refusal before there is an outcome is answered as an error.
-#[tactic(auto, using(crate::proofs::Walks::walk))]
+#[tactic(auto, using(psi_walk::proofs::Walks::walk))]
 fn twin_steps<W: World>(alloc: Global, words: &Words, world: &mut W) -> Result<Outcome, Status>
     ensures { Runs W.known words.now twin_tree (W.outside world.old) (end_of result (W.outside world.new)) }
 {

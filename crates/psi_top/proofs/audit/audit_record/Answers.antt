@@ -2,10 +2,10 @@ use Rattle.std.proofs.Common.{◌≡◌, ◌∙◌, List, ℕ, Err, ap, sym, sub
 use Rattle.std.specs.declared.result.Result.{Result}
 use Rattle.std.proofs.lemmas.Result.{err_from_is_err_and}
 use Rattle.psi_top.specs.Audit.{audit_record, audit_session}
-use Rattle.psi_top.specs.Files.{reads_record, record_in}
-use Rattle.psi_top.specs.Tree.{decides, end_of}
-use Rattle.psi_top.specs.Walk.{Runs}
-use Rattle.psi_top.specs.declared.outcome.Outcome.{Outcome}
+use Rattle.psi_walk.specs.Files.{reads_record, record_in}
+use Rattle.psi_walk.specs.Tree.{decides, end_of}
+use Rattle.psi_walk.specs.Walk.{Runs}
+use Rattle.psi_walk.specs.declared.outcome.Outcome.{Outcome}
 use Rattle.psi_texts.specs.declared.status.Status.{Status}
 use Rattle.psi_top.proofs.audit.audit_record.Goals as goal
 

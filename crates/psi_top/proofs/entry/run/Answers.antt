@@ -1,7 +1,8 @@
-use Rattle.psi_top.specs.Tree.{ended}
+use Rattle.psi_walk.specs.Tree.{ended}
 use Rattle.psi_top.proofs.Laws.{answers_bad_words, answers_complete, answers_counted, answers_done, answers_exact, answers_of_command, answers_stand, answers_through}
 use Rattle.psi_top.proofs.AuditLaws.{answers_audit, answers_audited}
 use Rattle.psi_top.proofs.DealLaws.{answers_dealt}
+use Rattle.psi_top.proofs.HidingLaws.{answers_hides}
 use Rattle.psi_top.proofs.HonestLaws.{answers_found}
 use Rattle.psi_top.proofs.LocalLaws.{answers_completed, answers_local, answers_shown}
 use Rattle.psi_top.proofs.MakeLaws.{answers_made}
@@ -84,6 +85,10 @@ returns-clause-received g c =
 pub returns-clause-found : goal.returns-clause-found
 returns-clause-found g c =
     answers_found g.W.World.known c.args.words.now (g.W.World.outside c.args.world.now) (ended c.answer.result (g.W.World.outside c.answer.new.world)) c.answer.ensures
+
+pub returns-clause-hides : goal.returns-clause-hides
+returns-clause-hides g c =
+    answers_hides g.W.World.known c.args.words.now (g.W.World.outside c.args.world.now) (ended c.answer.result (g.W.World.outside c.answer.new.world)) c.answer.ensures
 
 pub returns-clause-made : goal.returns-clause-made
 returns-clause-made g c =

@@ -1,8 +1,8 @@
 use Rattle.std.proofs.Common.{ℕ, List, Option, subst, sym}
 use Rattle.psi_top.specs.Local.{local_set}
 use Rattle.psi_top.specs.Transcript.{IsPlayed, log_of}
-use Rattle.psi_top.specs.Tree.{End}
-use Rattle.psi_top.specs.Walk.{Runs}
+use Rattle.psi_walk.specs.Tree.{End}
+use Rattle.psi_walk.specs.Walk.{Runs}
 use Rattle.psi_top.proofs.Played.{length-played, played_on}
 use Rattle.psi_top.proofs.local.place_and_play.Goals as goal
 

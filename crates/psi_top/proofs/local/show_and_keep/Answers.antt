@@ -4,8 +4,8 @@ use Rattle.psi_spec.specs.Texts.{lines_text}
 use Rattle.psi_log.specs.Recording.{RecorderState}
 use Rattle.psi_top.specs.Receive.{marked}
 use Rattle.psi_top.specs.Transcript.{writes}
-use Rattle.psi_top.specs.Tree.{closed, ends, says}
-use Rattle.psi_top.specs.Walk.{Follows, Runs}
+use Rattle.psi_walk.specs.Tree.{closed, ends, says}
+use Rattle.psi_walk.specs.Walk.{Follows, Runs}
 use Rattle.psi_top.proofs.Played.{closes}
 use Rattle.psi_top.proofs.local.show_and_keep.Goals as goal
 
@@ -21,7 +21,7 @@ returns g c = λ bytes held.
     let digest = c.finish-log.result.0 in
     let last = closed (Ok digest) after in
     let wire = Some (sha256 bytes) in
-    subst (λ (marks : List Bool). Runs known words (ends wire (says (lines_text (marked marks xs)) ∷ writes log)) before last) c.shown.ensures
+    subst (λ (marks : List Bool). Runs known words (ends wire (says (lines_text (marked marks xs)) ∷ writes log)) before last) c.shown.ensures.shown
     (c.in_ok-print_shown.ensures words false wire (writes log) last
     (subst (λ (l : Option RecorderState). Follows known words false (ends wire (writes l)) printed last) c.finish-log.ensures.log
     (c.in_ok-keep_record.ensures false wire last (closes known words digest (sha256 bytes) after (c.finish-log.ensures.digest bytes held)))))

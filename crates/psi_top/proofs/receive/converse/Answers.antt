@@ -4,10 +4,10 @@ use Rattle.psi_frames.specs.declared.turns.EndFault.{EndFault}
 use Rattle.psi_receiver.specs.Laws.{receiver_dialogue}
 use Rattle.psi_receiver.specs.Receiving.{Receives}
 use Rattle.psi_top.specs.Receive.{IsHeard}
-use Rattle.psi_top.specs.Walk.{StepsTalk}
+use Rattle.psi_walk.specs.Walk.{StepsTalk}
 use Rattle.psi_texts.specs.declared.status.Status.{Status}
 use Rattle.psi_top.proofs.Heard.{length-marks, received_talks}
-use Rattle.psi_top.proofs.Walks.{talks_out}
+use Rattle.psi_walk.proofs.Walks.{talks_out}
 use Rattle.psi_top.proofs.receive.converse.Goals as goal
 
 pub returns-in-Ok-clause-session : goal.returns-in-Ok-clause-session

@@ -6,13 +6,13 @@ use Rattle.psi_spec.specs.Meeting.{Placed, placed_of}
 use Rattle.psi_spec.proofs.Dealing.{length-placement}
 use Rattle.psi_receiver.specs.Laws.{receiver_dialogue}
 use Rattle.psi_top.specs.Receive.{receive_rest, shows_and_keeps}
-use Rattle.psi_top.specs.Tree.{ends, stopped, talks}
-use Rattle.psi_top.specs.Walk.{Runs, status_of}
+use Rattle.psi_walk.specs.Tree.{ends, stopped, talks}
+use Rattle.psi_walk.specs.Walk.{Runs, status_of}
 use Rattle.psi_texts.specs.declared.status.Status.{Status}
 use Rattle.psi_texts.specs.declared.status.Status.TheVariants as status
 use Rattle.psi_top.proofs.Heard.{session_on}
 use Rattle.psi_spec.proofs.Placing.{length-placed_of}
-use Rattle.psi_top.proofs.Walks.{starves}
+use Rattle.psi_walk.proofs.Walks.{starves}
 use Rattle.psi_top.proofs.receive.receive_rest.Goals as goal
 
 pub returns-in_err-end : goal.returns-in_err-end
@@ -20,7 +20,7 @@ returns-in_err-end g c =
     let known = g.W.World.known in
     let words = c.args.words.now in
     let before = g.W.World.outside c.args.world.now in
-    let tree = receive_rest c.args.items.now c.args.deal.now c.args.placement.now in
+    let tree = receive_rest words c.args.items.now c.args.deal.now c.args.placement.now in
     let failed = err_from_is_err_and c.from_residual.result c.from_residual.ensures.1 in
     let same : c.from_residual.result ≡ Err status.NoMemory = failed.1 ∙ ap Err (failed.2 ∙ c.in_err-end.ensures.fails) in
     subst (λ (r : Result (Unit {0}) Status). Runs known words tree before (stopped (status_of r) before)) (sym same) (starves known words tree before)

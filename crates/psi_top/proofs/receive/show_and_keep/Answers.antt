@@ -2,8 +2,8 @@ use Rattle.std.proofs.Common.{◌≡◌, ◌∷◌, [], ◌∙◌, Bool, true, L
 use Rattle.psi_spec.specs.DealFiles.{sealed}
 use Rattle.psi_spec.specs.Texts.{lines_text}
 use Rattle.psi_top.specs.Receive.{marked}
-use Rattle.psi_top.specs.Tree.{ends, puts, says, stopped}
-use Rattle.psi_top.specs.Walk.{Follows, status_of}
+use Rattle.psi_walk.specs.Tree.{ends, puts, says, stopped}
+use Rattle.psi_walk.specs.Walk.{Follows, status_of}
 use Rattle.psi_top.proofs.Heard.{kept}
 use Rattle.psi_top.proofs.receive.show_and_keep.Goals as goal
 
@@ -18,6 +18,6 @@ returns g c =
     let after = g.W.World.outside c.write_word.new.world in
     let last = stopped (status_of c.write_word.result) after in
     let file : c.deref.result.now ≡ sealed end.log = c.deref.ensures.value ∙ c.write_record-record.ensures.sealed ∙ ap sealed c.into_log.ensures in
-    subst (λ (marks : List Bool). Follows known words true (ends None (says (lines_text (marked marks xs)) ∷ puts 4 (sealed end.log) ∷ [])) before last) c.shown.ensures
+    subst (λ (marks : List Bool). Follows known words true (ends None (says (lines_text (marked marks xs)) ∷ puts 4 (sealed end.log) ∷ [])) before last) c.shown.ensures.shown
     (c.in_ok-print_shown.ensures words true None (puts 4 (sealed end.log) ∷ []) last
     (kept known words c.deref.result.now (sealed end.log) printed after c.write_word.result file (c.write_word.ensures true)))

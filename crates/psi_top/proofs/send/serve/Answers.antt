@@ -5,9 +5,9 @@ use Rattle.psi_frames.specs.declared.turns.EndFault.{EndFault}
 use Rattle.psi_sender.specs.Laws.{sender_dialogue}
 use Rattle.psi_sender.specs.Running.{SenderState}
 use Rattle.psi_sender.specs.Script.{sender_script}
-use Rattle.psi_top.specs.Walk.{StepsTalk}
+use Rattle.psi_walk.specs.Walk.{StepsTalk}
 use Rattle.psi_texts.specs.declared.status.Status.{Status}
-use Rattle.psi_top.proofs.Walks.{talks_on, talks_out}
+use Rattle.psi_walk.proofs.Walks.{talks_on, talks_out}
 use Rattle.psi_top.proofs.send.serve.Goals as goal
 
 pub returns-in-Ok : goal.returns-in-Ok

@@ -1,6 +1,6 @@
 use Rattle.std.proofs.Common.{refl, rules}
 use Rattle.psi_base.specs.declared.faults.Fault.TheVariants as fault
-use Rattle.psi_top.specs.Walk.{Does, Follows, passed, cut}
+use Rattle.psi_walk.specs.Walk.{Does, Follows, passed, cut}
 use Rattle.psi_top.proofs.showing.print_shown.Goals as goal
 
 pub returns-in-Ok : goal.returns-in-Ok

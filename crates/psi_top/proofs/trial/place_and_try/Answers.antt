@@ -1,7 +1,7 @@
 use Rattle.std.proofs.Common.{◌≡◌, ℕ, Bool, List, None, length, subst, sym, ◌∙◌, ap, ap₂}
-use Rattle.psi_top.specs.Tree.{End}
+use Rattle.psi_walk.specs.Tree.{End}
 use Rattle.psi_top.specs.Trial.{measured, summary_text, trial_set}
-use Rattle.psi_top.specs.Walk.{Runs}
+use Rattle.psi_walk.specs.Walk.{Runs}
 use Rattle.psi_top.proofs.TrialPlayed.{trial_on}
 use Rattle.psi_top.proofs.trial.place_and_try.Goals as goal
 
@@ -20,7 +20,7 @@ returns g c =
     let marks = c.in_ok-played.played.receiver.shown in
     let summary : c.summary_of-summary.result ≡ measured deals.0 (length xs) (length ys) marks =
     c.summary_of-summary.ensures ∙ ap₂ (λ (n m : ℕ). measured deals.0 n m c.shown.result.now) own peer
-    ∙ ap (λ (bs : List Bool). measured deals.0 (length xs) (length ys) bs) c.shown.ensures in
+    ∙ ap (λ (bs : List Bool). measured deals.0 (length xs) (length ys) bs) c.shown.ensures.shown in
     subst (λ (end : End). Runs known words (trial_set words xs ys) before end) (sym (c.placed_outcome.ensures after))
     (trial_on known words xs slots ys deals.0 deals.1 None c.in_ok-played.played c.deref-3.result.now before after c.print_summary-rest.result c.in_ok-deals.ensures.receiver
     c.in_ok-deals.ensures.sender c.len-own.ensures.items.few c.len-peer.ensures.items.few c.in_ok-placement.ensures.placed c.in_ok-placement.ensures.places

@@ -1,6 +1,6 @@
 use Rattle.std.proofs.Common.{[], false, Ok, Some}
 use Rattle.sha2.specs.Sha256.{sha256}
-use Rattle.psi_top.specs.Tree.{closed}
+use Rattle.psi_walk.specs.Tree.{closed}
 use Rattle.psi_top.proofs.Played.{closes}
 use Rattle.psi_top.proofs.trial.print_summary.Goals as goal
 

@@ -4,13 +4,13 @@ use Rattle.std.proofs.lemmas.Result.{err_from_is_err_and}
 use Rattle.psi_spec.specs.Changes.{change, columns_file}
 use Rattle.psi_spec.specs.ColumnSets.{masked_columns}
 use Rattle.psi_spec.specs.Streams.{columns_stream}
-use Rattle.psi_top.specs.Tree.{ends, stopped}
+use Rattle.psi_walk.specs.Tree.{ends, stopped}
 use Rattle.psi_top.specs.Twin.{dealt_for, files_of_words}
-use Rattle.psi_top.specs.Walk.{Runs, status_of}
+use Rattle.psi_walk.specs.Walk.{Runs, status_of}
 use Rattle.psi_texts.specs.declared.status.Status.{Status}
 use Rattle.psi_texts.specs.declared.status.Status.TheVariants as status
 use Rattle.psi_top.proofs.TwinSteps.{both_written}
-use Rattle.psi_top.proofs.Walks.{starves}
+use Rattle.psi_walk.proofs.Walks.{starves}
 use Rattle.psi_top.proofs.twin.write_files.Goals as goal
 
 pub returns-in_err-files : goal.returns-in_err-files

@@ -1,0 +1,13 @@
+pub mod Answered
+pub mod Carried
+pub mod Counted
+pub mod Digests
+pub mod JudgedFiles
+pub mod Laws
+pub mod Left
+pub mod Ready
+pub mod Standing
+pub mod Through
+pub mod Unplaced
+pub mod Walked
+pub mod Walks

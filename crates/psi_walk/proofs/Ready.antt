@@ -1,0 +1,31 @@
+-- What makes a tree ready.
+use Rattle.std.proofs.Common.{◌≡◌, ℕ, List, Option, Some, None, Ok, refl, sym, subst}
+use Rattle.std.specs.declared.result.Result.{Result}
+use Rattle.psi_spec.specs.Items.{first_bad, items_of}
+use Rattle.psi_words.specs.Words.{word_at}
+use Rattle.psi_base.specs.Outside.{Outside, Files}
+use Rattle.psi_walk.specs.Due.{Contents, told}
+use Rattle.psi_walk.specs.Files.{items_in}
+use Rattle.psi_walk.specs.Promises.{HasBytes, IsReady}
+use Rattle.psi_walk.specs.Tree.{Tree, decides}
+use Rattle.psi_texts.specs.declared.status.Status.{Status}
+
+-- a file that is there
+pub is_there : (files : Files) (words : List (List ℕ)) (word : ℕ) (bytes : List ℕ) → files (word_at words word) ≡ Some bytes → HasBytes (told (Some files) words) word bytes
+is_there files words word bytes e = (λ at. files (word_at words at), refl, e)
+
+-- a value that was judged
+pub ready_on : {A : Type 0} (contents : Option Contents) (before : Outside) (due : Result A Status) (x : A) (next : A → Tree) → due ≡ Ok x
+    → IsReady contents before (next x) → IsReady contents before (decides due next)
+unfolding decides
+ready_on contents before due x next e r = subst (λ (d : Result _ Status). IsReady contents before (decides d next)) (sym e) r
+
+-- an item file without a bad line
+pub items_ready : (words : List (List ℕ)) (bytes : List ℕ) (word : ℕ) → first_bad bytes ≡ None → items_in word bytes ≡ Ok (items_of bytes)
+unfolding items_in
+items_ready words bytes word none = rw none refl
+
+-- the same where the files are told so
+pub ready_told : (files : Files) (words : List (List ℕ)) (before : Outside) (tree : Tree) → before.files ≡ Some files → IsReady (told (Some files) words) before tree
+    → IsReady (told before.files words) before tree
+ready_told files words before tree is r = subst (λ (o : Option Files). IsReady (told o words) before tree) (sym is) r
