@@ -25,6 +25,7 @@ untouched ready = record {
   ends = 0;
   refusals = 0;
   ready = ready;
+  opened = None;
   steady = false;
 }
 

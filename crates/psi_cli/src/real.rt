@@ -1,14 +1,15 @@
 // The real outside: the files of the system, standard output, and one TCP stream.
-ghost use Rattle.std.specs.Prelude.{◌≡◌, ◌<◌, true, false, length, IsTrue};
+ghost use Rattle.std.specs.Prelude.{◌≡◌, ◌<◌, true, false, length, IfOk, IsTrue};
 ghost use Rattle.std.proofs.Common.{rules};
-ghost use Rattle.psi_base.specs.State.{next_count};
-ghost use Rattle.psi_base.specs.Outside.{Opens, Prints, Reads, Receives, Sends, Writes, as_list, nothing_known};
+ghost use Rattle.psi_base.specs.State.{link_of, next_count};
+ghost use Rattle.psi_base.specs.Outside.{Opens, Prints, Reads, Receives, Sends, Writes, as_list, link_to, nothing_known};
 ghost use Rattle.psi_cli.specs.Refused.{untouched, CountsRead, LinkRefused, PrintRefused, ReadsWhole, WriteRefused};
 ghost use Rattle.psi_cli.specs.declared.real.Unread.TheVariants as unread;
 
-use psi_base::{Failed, Fault, ReadFault, Side, World};
+use crate::files::{open_used, use_named, write_whole};
+use crate::used::UsedFiles;
+use psi_base::{Failed, Fault, Opened, ReadFault, Side, World};
 use std::alloc::Global;
-use std::fs;
 use std::io::{self, Read, Write};
 use std::net::{Net, OpenListener, OpenStream, Shutdown, TcpListener, TcpStream};
 use std::rt::{Clock, Files};
@@ -19,7 +20,11 @@ use std::time::{Duration, Instant};
 #[derive(Drop)]
 pub struct RealWorld<R: Files + Print + Net + Clock + Drop> {
     rt: R,
+    alloc: Global,
+    used: UsedFiles,
+    printed: bool,
     stream: Option<R::Stream>,
+    opened: Option<Opened>,
     file_faults: u64,
     link_faults: u64,
     print_faults: u64,
@@ -57,6 +62,12 @@ fn read_whole<F: Read + Drop>(alloc: Global, reader: F, max: u32) -> Result<Vec<
     Ok(bytes)
 }
 
+// The name of standard output among the files.
+const OUTPUT: &str = "/dev/stdout";
+
+// The seconds for which an open link may be silent, and for which a send may wait.
+const LINK_WAIT: u64 = 600;
+
 // The most reads of what a peer sends after its session: of the longest stream, in pieces of a usual packet.
 const LAST_READS: u32 = 65_536;
 
@@ -88,12 +99,16 @@ impl<R: Files + Print + Net + Clock + Drop> RealWorld<R> {
     ghost use Rattle.psi_cli.specs.RealWorld.{outside_of};
 
     /// Nothing went wrong yet, and there is no link.
-    pub fn new(rt: R) -> RealWorld<R>
+    pub fn new(alloc: Global, rt: R) -> RealWorld<R>
         ensures { outside_of result ≡ untouched false }
     {
         RealWorld {
             rt,
+            alloc,
+            used: UsedFiles::new(alloc),
+            printed: false,
             stream: None,
+            opened: None,
             file_faults: 0,
             link_faults: 0,
             print_faults: 0,
@@ -103,12 +118,16 @@ impl<R: Files + Print + Net + Clock + Drop> RealWorld<R> {
     }
 
     /// Nothing went wrong yet, and the stream is the link, which is ready.
-    pub fn over(rt: R, stream: R::Stream) -> RealWorld<R>
+    pub fn over(alloc: Global, rt: R, stream: R::Stream) -> RealWorld<R>
         ensures { outside_of result ≡ untouched true }
     {
         RealWorld {
             rt,
+            alloc,
+            used: UsedFiles::new(alloc),
+            printed: false,
             stream: Some(stream),
+            opened: None,
             file_faults: 0,
             link_faults: 0,
             print_faults: 0,
@@ -184,11 +203,22 @@ impl<R: Files + Print + Net + Clock + Drop> RealWorld<R> {
         Fault::Failed
     }
 
-    fn read_named(&self, alloc: Global, name: &str, max: u32) -> Result<Vec<u8>, Unread>
-        ensures { ReadsWhole None max (as_list result) }
+    fn read_named(&mut self, alloc: Global, name: &str, max: u32) -> Result<Vec<u8>, Unread>
+        ensures whole { ReadsWhole None max (as_list result) }
+        ensures same { outside_of self.new ≡ outside_of self.old }
     {
-        let file = fs::open(&self.rt, name)?;
+        let file = open_used(&self.rt, &mut self.used, name)?;
         read_whole(alloc, file, max)
+    }
+
+    // A file that was printed into is one that was written.
+    fn write_named(&mut self, name: &str, bytes: &[u8]) -> io::Result<()>
+        ensures { outside_of self.new ≡ outside_of self.old }
+    {
+        if self.printed {
+            use_named(&self.rt, &mut self.used, OUTPUT)?;
+        }
+        write_whole(&self.rt, self.alloc, &mut self.used, name, bytes)
     }
 
     // The stream of a connection to the address, or of the first one that comes there.
@@ -201,6 +231,28 @@ impl<R: Files + Print + Net + Clock + Drop> RealWorld<R> {
                 Ok(stream)
             }
         }
+    }
+
+    // Such a stream, on which no read and no write waits for longer than a link may be silent.
+    fn link_at(&self, side: Side, address: &str) -> io::Result<R::Stream> {
+        let stream = self.stream_at(side, address)?;
+        let most = Some(Duration::from_secs(LINK_WAIT));
+        stream.set_read_timeout(most)?;
+        stream.set_write_timeout(most)?;
+        Ok(stream)
+    }
+}
+
+impl<R: Files + Print + Net + Clock + Drop> RealWorld<R> {
+    // The link at the address, and how it was opened. Memory for the address is taken before.
+    fn opened_link(&self, side: Side, address: &str) -> io::Result<(R::Stream, Opened)>
+        ensures { IfOk result (λ made. link_of made.1 ≡ link_to side address.now) }
+    {
+        let opened = Opened {
+            side,
+            address: address.to_string(self.alloc)?,
+        };
+        Ok((self.link_at(side, address)?, opened))
     }
 }
 
@@ -223,15 +275,16 @@ impl<R: Files + Print + Net + Clock + Drop> World for RealWorld<R> {
         }
     }
 
-    /// As `World` says.
+    /// As `World` says. A plain file is replaced by a new one, once that is whole on disk, and refused where it
+    /// was read, written or printed into before. What is no plain file is written as it is.
     fn write_file(&mut self, name: &str, bytes: &[u8]) -> Result<(), Fault>
-        ensures writes { Writes (outside_of self.old) name.now bytes.now result (outside_of self.new) }
+        ensures writes { Writes nothing_known (outside_of self.old) name.now bytes.now result (outside_of self.new) }
         ensures failed { result ≡ Err Fault.Failed →
             (outside_of self.new).file_faults ≡ next_count (outside_of self.old).file_faults }
         ensures refused { result ≡ Err Fault.NoMemory →
             (outside_of self.new).refusals ≡ next_count (outside_of self.old).refusals }
     {
-        match fs::write(&self.rt, name, bytes) {
+        match self.write_named(name, bytes) {
             Ok(()) => Ok(()),
             Err(error) => Err(self.write_fault(error.kind())),
         }
@@ -248,23 +301,29 @@ impl<R: Files + Print + Net + Clock + Drop> World for RealWorld<R> {
     {
         match io::writer(&self.rt).write(bytes) {
             Ok(0) => Err(self.print_fault(io::ErrorKind::WriteZero)),
-            Ok(count) => Ok(count),
+            Ok(count) => {
+                self.printed = true;
+                Ok(count)
+            }
             Err(error) => Err(self.print_fault(error.kind())),
         }
     }
 
-    /// As `World` says. Connects to the address, or takes the first connection that comes there. The new
+    /// As `World` says. Connects to the address, or takes the first connection that comes there. A receive on
+    /// the link for which nothing comes in ten minutes fails, and so does a send that waits for as long. The new
     /// stream takes the place of one that was there, which is closed; where none could be had, that stays.
     fn open_link(&mut self, side: Side, address: &str) -> Result<(), Fault>
-        ensures opens { Opens (outside_of self.old) result (outside_of self.new) }
+        ensures opens { Opens nothing_known (outside_of self.old) (link_to side address.now) result
+            (outside_of self.new) }
         ensures failed { result ≡ Err Fault.Failed →
             (outside_of self.new).link_faults ≡ next_count (outside_of self.old).link_faults }
         ensures refused { result ≡ Err Fault.NoMemory →
             (outside_of self.new).refusals ≡ next_count (outside_of self.old).refusals }
     {
-        match self.stream_at(side, address) {
-            Ok(stream) => {
+        match self.opened_link(side, address) {
+            Ok((stream, opened)) => {
                 self.stream = Some(stream);
+                self.opened = Some(opened);
                 Ok(())
             }
             Err(error) => Err(self.link_fault(error.kind())),
