@@ -62,6 +62,41 @@ fn the_record_of_a_session_is_consistent(rt: HostRuntime) -> Result<(), Fail> {
     Ok(())
 }
 
+// A file as it is exported: 20,000 lines with CR LF, of which the last 1,000 repeat the first, and every third is in
+// capitals. The first 5,000 items are those of every such file, and the others have a letter of their own.
+fn exported_lines(alloc: Global, letter: char, capitals: u32) -> Result<String, AllocError> {
+    let mut lines = String::new(alloc);
+    for line in 0..20_000u32 {
+        let number = line % 19_000;
+        let kind = if number < 5_000 { 's' } else { letter };
+        let kind = if line % 3 == capitals {
+            kind.to_ascii_uppercase()
+        } else {
+            kind
+        };
+        lines.push_str(&format!(in alloc; "{kind}{number}\r\n")?)?;
+    }
+    Ok(lines)
+}
+
+#[test]
+fn lists_of_ordinary_use_are_consistent(rt: HostRuntime) -> Result<(), Fail> {
+    let x = exported_lines(rt.alloc(), 'x', 0)?;
+    let y = exported_lines(rt.alloc(), 'y', 1)?;
+    let mut world = recorded_world(&rt, "16", x.as_bytes(), y.as_bytes())?;
+    let mut text = numbered_lines(rt.alloc(), 's', 5_000)?;
+    text.push_str("consistent\nshown 5000\ncollisions 0\n")?;
+    expect_run(
+        &rt,
+        AUDIT,
+        &mut world,
+        DONE,
+        text.as_bytes(),
+        "20,000 lines",
+    )?;
+    Ok(())
+}
+
 #[test]
 fn items_that_meet_by_short_tags_are_collisions(rt: HostRuntime) -> Result<(), Fail> {
     let x = numbered_lines(rt.alloc(), 'x', 300)?;
@@ -71,7 +106,7 @@ fn items_that_meet_by_short_tags_are_collisions(rt: HostRuntime) -> Result<(), F
     let words = words_of(rt.alloc(), AUDIT)?;
     assert_eq!(rt; run(rt.alloc(), &words, &mut world).status, Status::Done);
     let text = world.printed().get(shown..).unwrap_or(&[]);
-    let front = b"consistent\nshown 206\ncollisions 206\ncollision ";
+    let front = b"consistent\nshown 197\ncollisions 197\ncollision ";
     assert_eq!(rt; text.get(..front.len()), Some(front.as_slice()));
     Ok(())
 }

@@ -104,8 +104,8 @@ fn short_tags_meet_in_long_lists(rt: HostRuntime) -> Result<(), Fail> {
     let words = words_of(rt.alloc(), &["local", "x", "y", Z, "0", "1", "record"])?;
     let outcome = run(rt.alloc(), &words, &mut world);
     assert_eq!(rt; outcome.status, Status::Done);
-    // 206 of the items are shown, though none is common.
-    assert_eq!(rt; world.printed().len(), 949);
+    // 197 of the items are shown, though none is common.
+    assert_eq!(rt; world.printed().len(), 907);
     assert_eq!(rt; world.file("record").unwrap_or(&[]).len(), 30_920);
     Ok(())
 }

@@ -38,6 +38,11 @@ const TRIALS: &[(&str, &str, &[u8])] = &[
         "250",
         b"items 1000\nbins 1201\nrows 1205\nto-sender 80935\nto-receiver 112104\nshown 250\n",
     ),
+    (
+        "20000",
+        "5000",
+        b"items 20000\nbins 24001\nrows 24005\nto-sender 1540135\nto-receiver 2241434\nshown 5000\n",
+    ),
 ];
 
 #[test]
