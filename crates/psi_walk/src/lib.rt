@@ -1,5 +1,6 @@
 //! What all commands share: a command as a tree of steps, how a run follows it, what it comes to, and the steps: a file
-//! is read and judged, a set is placed, the link is opened, a text is printed and a file is written. It knows no command.
+//! is read and judged, a set is placed, the link is opened, a text is printed and a file is written. It knows no
+//! command.
 #![tactic(auto)]
 
 mod outcome;
