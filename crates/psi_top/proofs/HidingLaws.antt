@@ -1,14 +1,13 @@
 -- What `receive` sends is a front of the one stream of its list, however it ends, and that stream hides the list.
-use Rattle.std.proofs.Common.{◌≡◌, ◌≤◌, ◌⊎◌, inl, inr, ℕ, List, [], ◌∷◌, ◌++◌, length, Option, Some, None, option_map, take, Err, refl, sym, ap, ◌∙◌, subst, arith}
+use Rattle.std.proofs.Common.{◌≡◌, ◌≤◌, ◌⊎◌, inl, inr, ℕ, List, [], ◌++◌, length, Some, option_map, take, Err, sym, ap, ◌∙◌, subst, arith}
 use Rattle.std.proofs.lemmas.List.{take_all}
 use Rattle.psi_spec.specs.Deals.{ReceiverDeal}
-use Rattle.psi_spec.specs.HidingLaws.{HidesSet}
 use Rattle.psi_spec.specs.Limits.{bins_for}
 use Rattle.psi_spec.specs.Meeting.{Placed, placed_of}
 use Rattle.psi_spec.specs.Placement.{Slot, IsPlacementOf}
 use Rattle.psi_spec.proofs.Hiding.{sets_are_hidden}
 use Rattle.psi_base.specs.Outside.{Known, LinkFailed, Outside, Starved, opening}
-use Rattle.psi_frames.specs.Dialogue.{CutOff, HeardBad, HeardShort, Talks, talked}
+use Rattle.psi_frames.specs.Dialogue.{CutOff, Talks}
 use Rattle.psi_frames.specs.declared.turns.EndFault.TheVariants as peer
 use Rattle.psi_receiver.specs.Laws.{own_stream, receiver_dialogue}
 use Rattle.psi_receiver.proofs.Fronts.{sends_its_stream}
@@ -19,7 +18,7 @@ use Rattle.psi_walk.specs.Tree.{End}
 use Rattle.psi_texts.specs.declared.status.Status.{Status}
 use Rattle.psi_texts.specs.declared.status.Status.TheVariants as status
 use Rattle.psi_top.specs.Commands.{Answers}
-use Rattle.psi_top.specs.HidingPromises.{HidesList, IsOtherList, ReceiveHides, SentHidden}
+use Rattle.psi_top.specs.HidingPromises.{HidesList, ReceiveHides, SentHidden}
 use Rattle.psi_top.specs.Receive.{sender_link}
 use Rattle.psi_top.specs.ReceivePromises.{ReceiveAnswers, WithPlacement, connected, exchanged}
 use Rattle.psi_top.proofs.ReceiveLaws.{answers_receive}

@@ -4,8 +4,7 @@ use Rattle.psi_words.specs.Words.{bad_word}
 use Rattle.psi_words.specs.Form.{command_of}
 use Rattle.psi_words.specs.declared.form.Command.{Command}
 use Rattle.psi_base.specs.Outside.{Known, Outside}
-use Rattle.psi_walk.specs.Due.{told}
-use Rattle.psi_walk.specs.Promises.{Completes, IsCalm, IsDone, IsDue, IsReady, Leaves, StandsAt}
+use Rattle.psi_walk.specs.Promises.{Completes, IsDue, Leaves, StandsAt}
 use Rattle.psi_walk.specs.Tree.{Tree, End}
 use Rattle.psi_walk.specs.Walk.{Runs}
 use Rattle.psi_texts.specs.declared.status.Status.{Status}

@@ -9,7 +9,7 @@ use Rattle.psi_spec.specs.Hits.{hit_items, receiver_side}
 use Rattle.psi_spec.specs.Items.{items_of}
 use Rattle.psi_spec.specs.Limits.{bins_for, file_limit}
 use Rattle.psi_spec.specs.Meeting.{placed_of}
-use Rattle.psi_spec.specs.Placement.{Slot, IsPlacement, IsPlacementOf}
+use Rattle.psi_spec.specs.Placement.{Slot, IsPlacementOf}
 use Rattle.psi_spec.specs.Texts.{lines_text}
 use Rattle.psi_words.specs.Words.{word_at}
 use Rattle.psi_spec.proofs.DealFiles.{length-receiver_bytes, receiver_files_read_back}

@@ -2,14 +2,13 @@
 use Rattle.std.proofs.Common.{◌≡◌, ◌≤◌, ◌⊎◌, inl, inr, ℕ, true, false, List, [], ◌++◌, length, Option, Some, None, option_map, take, Ok, Err, slice_get, refl, sym, ap, ◌∙◌, subst, arith}
 use Rattle.std.proofs.lemmas.Bool.{true≢false}
 use Rattle.std.proofs.lemmas.List.{append-nil}
-use Rattle.std.specs.declared.result.Result.{Result}
 use Rattle.psi_spec.specs.DealFiles.{sender_bytes, sender_size}
 use Rattle.psi_spec.specs.Deals.{SenderDeal, IsSenderDeal, sender_columns}
 use Rattle.psi_spec.specs.Frames.{layout, sender_hello}
-use Rattle.psi_spec.specs.Items.{first_bad, items_of}
+use Rattle.psi_spec.specs.Items.{items_of}
 use Rattle.psi_spec.specs.Limits.{file_limit, rows_for}
 use Rattle.psi_spec.specs.Placement.{Slot}
-use Rattle.psi_base.specs.Outside.{Known, Outside, Files, Starved, opening}
+use Rattle.psi_base.specs.Outside.{Known, Outside, Files, Starved}
 use Rattle.psi_deal.specs.BadDeals.{bad_deal}
 use Rattle.psi_frames.specs.declared.expect.Expect.TheVariants as expect
 use Rattle.psi_frames.specs.declared.turns.EndFault.TheVariants as peer
@@ -25,7 +24,7 @@ use Rattle.psi_walk.specs.JudgedFiles.{HasItems, HasSenderDeal}
 use Rattle.psi_walk.specs.Promises.{IsAnswered, IsNotTalked, IsOfEnd, IsReady, IsSilent, IsUnopened, IsUnread, Leaves}
 use Rattle.psi_top.specs.Send.{receiver_link, send_rest, send_tree}
 use Rattle.psi_top.specs.SendPromises.{AfterItems, CanServe, IsEarlyOrCounted, IsOfSend, SendAnswers, SendServes, Served, WithFiles, listening}
-use Rattle.psi_walk.specs.Tree.{Effect, Tree, decides, talks, ends, End}
+use Rattle.psi_walk.specs.Tree.{Effect, talks, ends, End}
 use Rattle.psi_words.specs.declared.form.Command.TheVariants.{Send}
 use Rattle.psi_texts.specs.declared.status.Status.{Status}
 use Rattle.psi_texts.specs.declared.status.Status.TheVariants as status

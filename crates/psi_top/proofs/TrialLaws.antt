@@ -1,7 +1,7 @@
 -- The promises of `trial` in its own words.
-use Rattle.std.proofs.Common.{◌≡◌, inl, inr, ℕ, false, true, List, [], ◌∷◌, slice_get, zero, suc, Option, Some, refl, ap, ◌∙◌, subst, sym}
+use Rattle.std.proofs.Common.{◌≡◌, inl, inr, ℕ, false, true, List, [], ◌∷◌, slice_get, zero, suc, Option, Some, ap, ◌∙◌, subst, sym}
 use Rattle.psi_spec.specs.Placement.{Slot}
-use Rattle.psi_base.specs.Outside.{Known, Outside, Files}
+use Rattle.psi_base.specs.Outside.{Known, Outside}
 use Rattle.psi_top.specs.Commands.{Answers}
 use Rattle.sha2.specs.Sha256.{sha256}
 use Rattle.psi_walk.specs.Due.{Contents, told}

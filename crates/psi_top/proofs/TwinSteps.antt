@@ -8,7 +8,7 @@ use Rattle.psi_spec.specs.Placement.{Slot}
 use Rattle.psi_spec.specs.Streams.{columns_stream, receiver_stream, words_of}
 use Rattle.psi_base.specs.Outside.{Known, Outside}
 use Rattle.psi_walk.specs.Placing.{placing_of}
-use Rattle.psi_walk.specs.Tree.{Tree, carrying, ends, puts, stopped}
+use Rattle.psi_walk.specs.Tree.{carrying, ends, puts, stopped}
 use Rattle.psi_top.specs.Twin.{dealt_for, files_of_words, twin_files, twin_first, twin_rest, twin_second}
 use Rattle.psi_top.specs.TwinPromises.{IsPlacedWith}
 use Rattle.psi_walk.specs.Walk.{Makes, Places, Runs}

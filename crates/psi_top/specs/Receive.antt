@@ -1,6 +1,6 @@
 -- What `receive` does: it reads its items and its deal, places the items, opens the link, runs the receiver's end of a
 -- session, prints the items that are shown, and writes the record of the session.
-use Rattle.std.specs.Prelude.{◌≡◌, ◌+◌, ◌-◌, ◌*◌, ℕ, Bool, if◌then◌else◌, List, [], ◌∷◌, ◌++◌, length, take, drop, min, None, zero, suc}
+use Rattle.std.specs.Prelude.{◌≡◌, ◌+◌, ◌-◌, ◌*◌, ℕ, Bool, if◌then◌else◌, List, [], ◌∷◌, ◌++◌, take, drop, min, None, zero, suc}
 use Rattle.std.specs.Int.{w32, from_be_bytes}
 use Rattle.psi_spec.specs.Deals.{ReceiverDeal}
 use Rattle.psi_spec.specs.Frames.{tags_of}

@@ -1,7 +1,7 @@
 -- The status of a run comes from a step of its tree, along contents that were read, and no more was sent than along it.
 use Rattle.std.proofs.Common.{◌≡◌, ◌⊎◌, inl, inr, ℕ, Bool, true, List, [], ◌∷◌, suc, Option, Some, None, Ok, Err, refl, sym, ap, ◌∙◌, subst}
 use Rattle.std.specs.declared.result.Result.{Result}
-use Rattle.psi_spec.specs.Placement.{Slot, IsPlacement}
+use Rattle.psi_spec.specs.Placement.{Slot}
 use Rattle.psi_words.specs.Words.{word_at}
 use Rattle.psi_base.specs.Outside.{Known, Link, Outside, Reads, Rose, Writes, PrintsAll, Opens, linked, partly_written, printed_too, written}
 use Rattle.psi_base.specs.declared.faults.Fault.{Fault}
@@ -12,8 +12,8 @@ use Rattle.psi_frames.specs.declared.turns.EndFault.{EndFault}
 use Rattle.psi_frames.specs.declared.turns.EndFault.TheVariants as peer
 use Rattle.psi_frames.specs.Dialogue.{Dialogue, Talks, talked}
 use Rattle.psi_walk.specs.Promises.{IsAnswered, IsHungry, IsNotTalked, IsOfEnd, IsSilent, IsUnopened, IsUnread}
-use Rattle.psi_walk.specs.Tree.{Effect, says, puts, Placing, Tree, reads, refuses, places, opens, talks, ends, End, stopped, carried_by, with_slots}
-use Rattle.psi_walk.specs.Walk.{AtCall, AtPlace, AtRefusal, AtEnd, IsNotPlaced, starved, cut, passed, hungry, crowded, placed, given_up, refused, gave_up, all_done, IsExcluded, IsPicked, IsVerdict, Does, Follows, Gives, read_status, write_status, print_status, open_status, talk_status}
+use Rattle.psi_walk.specs.Tree.{Effect, says, puts, Placing, Tree, reads, refuses, places, opens, talks, ends, End, stopped, carried_by}
+use Rattle.psi_walk.specs.Walk.{AtCall, AtPlace, AtRefusal, AtEnd, IsNotPlaced, starved, cut, passed, hungry, crowded, placed, given_up, refused, gave_up, all_done, IsPicked, IsVerdict, Does, Follows, Gives, read_status, write_status, print_status, open_status, talk_status}
 use Rattle.psi_texts.specs.declared.status.Status.{Status}
 use Rattle.psi_texts.specs.declared.status.Status.TheVariants as status
 

@@ -1,5 +1,5 @@
 -- The digests of items, and their candidates.
-use Rattle.std.proofs.Common.{◌≡◌, ℕ, List, Option, map, ap, ap₂, ◌∙◌, subst, sym}
+use Rattle.std.proofs.Common.{◌≡◌, ℕ, List, Option, map, ap, ◌∙◌, subst}
 use Rattle.std.proofs.lemmas.Simd.{map-map}
 use Rattle.psi_spec.specs.Formulas.{item_digest}
 use Rattle.psi_spec.specs.Picking.{picked}

@@ -1,13 +1,13 @@
 -- The promises of every run that follow from how it followed its tree.
-use Rattle.std.proofs.Common.{◌≡◌, ◌==◌, ◌⊎◌, inl, inr, ℕ, Bool, true, false, List, [], slice_get, Option, Some, None, refl, sym, ap, ◌∙◌, subst, arith, if◌then◌else◌}
+use Rattle.std.proofs.Common.{◌≡◌, ◌==◌, ◌⊎◌, inl, inr, ℕ, Bool, true, false, List, slice_get, Option, Some, None, refl, sym, ap, ◌∙◌, subst, arith, if◌then◌else◌}
 use Rattle.std.proofs.lemmas.Bool.Decides.{nat_tests}
 use Rattle.psi_spec.specs.CrowdedLists.{touched_by}
 use Rattle.psi_spec.specs.Placement.{Slot}
 use Rattle.psi_base.specs.Outside.{Known, Outside, Rose, linked}
 use Rattle.psi_frames.specs.Dialogue.{talked}
 use Rattle.psi_walk.specs.Due.{Contents, Due, lacks, long, refusal, unplaced, reached, untold, due, told, lacking, without}
-use Rattle.psi_walk.specs.Promises.{Completes, HasSoMany, IsAnswered, IsCalm, IsCounted, IsDue, IsStoppedAt, IsStoppedBefore, IsWhatIsDue, Leaves, OnDue, StandsAt, StandsBy}
-use Rattle.psi_walk.specs.Tree.{Effect, says, puts, Placing, Tree, reads, refuses, places, opens, talks, ends, End}
+use Rattle.psi_walk.specs.Promises.{Completes, IsAnswered, IsCalm, IsCounted, IsDue, IsStoppedAt, IsStoppedBefore, IsWhatIsDue, OnDue, StandsAt, StandsBy}
+use Rattle.psi_walk.specs.Tree.{Effect, says, puts, Tree, reads, refuses, places, opens, talks, ends, End}
 use Rattle.psi_walk.specs.Walk.{IsVerdict, Runs}
 use Rattle.psi_texts.specs.declared.status.Status.{Status}
 use Rattle.psi_texts.specs.declared.status.Status.TheVariants as status

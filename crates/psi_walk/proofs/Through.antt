@@ -1,5 +1,5 @@
 -- From valid files, sets that have placements and a well-formed peer a run comes to its end in a calm world.
-use Rattle.std.proofs.Common.{◌≡◌, ◌<◌, ◌≤◌, ◌⊎◌, inl, inr, ℕ, Bool, IsTrue, true, false, List, [], ◌∷◌, length, Option, Some, None, Ok, Err, refl, sym, ap, ◌∙◌, subst, arith}
+use Rattle.std.proofs.Common.{◌≡◌, ◌<◌, ◌≤◌, inl, inr, ℕ, Bool, true, false, List, [], ◌∷◌, length, Option, Some, None, Ok, Err, refl, sym, ap, ◌∙◌, subst, arith}
 use Rattle.std.specs.declared.result.Result.{Result}
 use Rattle.std.specs.Option.{IfSome}
 use Rattle.psi_spec.specs.Placement.{Slot, IsPlacement}
@@ -16,7 +16,7 @@ use Rattle.psi_frames.specs.Dialogue.{Dialogue, ReadSo, Reading, Talks, good, ba
 use Rattle.psi_walk.specs.Due.{Contents, told}
 use Rattle.psi_walk.specs.Promises.{HasBytes, IsCalm, IsDone, IsReady, ComesThrough}
 use Rattle.psi_walk.specs.Tree.{Effect, says, puts, Placing, Tree, reads, refuses, places, opens, talks, ends, End, stopped}
-use Rattle.psi_walk.specs.Walk.{AtCall, AtPlace, AtEnd, starved, cut, passed, hungry, crowded, placed, gave_up, all_done, IsPicked, Does, Follows, Gives, Runs, read_status, write_status, print_status, open_status, talk_status}
+use Rattle.psi_walk.specs.Walk.{AtCall, AtPlace, AtEnd, starved, cut, passed, hungry, crowded, placed, gave_up, all_done, IsPicked, Does, Follows, Gives, read_status, write_status, print_status, open_status, talk_status}
 use Rattle.psi_texts.specs.declared.status.Status.{Status}
 use Rattle.psi_texts.specs.declared.status.Status.TheVariants as status
 

@@ -1,7 +1,7 @@
 -- How a run met what its tree comes to, where what decides it is told.
-use Rattle.std.proofs.Common.{◌≡◌, ◌<◌, ◌≤◌, ◌==◌, ◌⊎◌, inl, inr, ℕ, Bool, IsTrue, true, false, nat_lt, List, [], take, drop, length, Option, Some, None, Ok, Err, refl, sym, ap, ◌∙◌, subst, arith}
+use Rattle.std.proofs.Common.{◌≡◌, ◌<◌, ◌≤◌, ◌==◌, ◌⊎◌, inl, inr, ℕ, Bool, IsTrue, true, false, nat_lt, List, [], take, length, Option, Some, None, Ok, Err, refl, sym, ap, ◌∙◌, subst, arith}
 use Rattle.std.specs.declared.result.Result.{Result}
-use Rattle.std.specs.Option.{option_map, IfSome}
+use Rattle.std.specs.Option.{IfSome}
 use Rattle.std.proofs.lemmas.Bool.Decides.{nat_tests}
 use Rattle.psi_spec.specs.CrowdedLists.{IsCrowded, touched_by}
 use Rattle.psi_spec.specs.Placement.{Slot}
@@ -18,7 +18,7 @@ use Rattle.psi_frames.specs.Dialogue.{Dialogue, Reading, ReadSo, Talks, good, ba
 use Rattle.psi_walk.specs.Due.{Contents, Due, lacks, long, refusal, unplaced, reached, IsTold, by_told, due, told, lacking, without, judged, given, heard}
 use Rattle.psi_walk.specs.Promises.{HasSoMany, Untouched, Stands}
 use Rattle.psi_walk.specs.Tree.{Effect, Placing, slots_for, Tree, reads, refuses, places, opens, talks, ends, End, stopped}
-use Rattle.psi_walk.specs.Walk.{AtCall, AtPlace, AtRefusal, starved, cut, passed, hungry, crowded, placed, given_up, refused, IsExcluded, IsPicked, IsVerdict, Follows, Gives, read_status, open_status, talk_status}
+use Rattle.psi_walk.specs.Walk.{AtCall, AtPlace, AtRefusal, starved, cut, passed, hungry, crowded, placed, given_up, refused, IsVerdict, Follows, Gives, read_status, open_status, talk_status}
 use Rattle.psi_texts.specs.declared.status.Status.{Status}
 use Rattle.psi_texts.specs.declared.status.Status.TheVariants as status
 use Rattle.psi_walk.proofs.Standing.{does_stands}

@@ -1,5 +1,5 @@
 -- What a tree of steps comes to, where the contents of the outside are told.
-use Rattle.std.specs.Prelude.{◌==◌, ℕ, List, [], ◌∷◌, Option, Some, None, length, nat_lt, option_map, take, true, if◌then◌else◌}
+use Rattle.std.specs.Prelude.{◌==◌, ℕ, List, [], ◌∷◌, Option, Some, None, length, nat_lt, option_map, take, if◌then◌else◌}
 use Rattle.psi_spec.specs.Placement.{Slot}
 use Rattle.psi_words.specs.Words.{word_at}
 use Rattle.psi_base.specs.Outside.{Outside, Files, linked, printed_too, written, partly_written}

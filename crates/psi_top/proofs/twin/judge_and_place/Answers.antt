@@ -1,12 +1,11 @@
-use Rattle.std.proofs.Common.{◌≡◌, ◌∙◌, Err, Ok, ap, length, None, subst, sym}
+use Rattle.std.proofs.Common.{◌≡◌, ◌∙◌, Err, Ok, ap, subst, sym}
 use Rattle.std.specs.declared.result.Result.{Result}
 use Rattle.std.proofs.lemmas.Result.{err_from_is_err_and}
-use Rattle.psi_spec.specs.Limits.{rows_for}
-use Rattle.psi_walk.specs.Tree.{Tree, end_of, ends, stopped}
+use Rattle.psi_walk.specs.Tree.{Tree, end_of, stopped}
 use Rattle.psi_walk.specs.Walk.{Runs, status_of}
 use Rattle.psi_walk.specs.declared.outcome.Outcome.{Outcome}
 use Rattle.psi_texts.specs.declared.status.Status.{Status}
-use Rattle.psi_top.specs.Twin.{files_of_words, twin_first, twin_rest, twin_sets, twins_in}
+use Rattle.psi_top.specs.Twin.{twin_first, twin_rest, twin_sets, twins_in}
 use Rattle.psi_top.proofs.TwinSteps.{both_placed, rest_tree, second_unplaced}
 use Rattle.psi_walk.proofs.Walks.{settled}
 use Rattle.psi_top.proofs.twin.judge_and_place.Goals as goal

@@ -3,7 +3,6 @@ use Rattle.psi_spec.specs.Limits.{bins_for}
 use Rattle.psi_spec.specs.Placement.{candidates_of}
 use Rattle.psi_cuckoo.specs.Refusal.{Refuses}
 use Rattle.psi_cuckoo.specs.declared.errors.NoFit.{NoFit}
-use Rattle.psi_cuckoo.specs.declared.errors.NoFit.TheVariants as fit
 use Rattle.psi_oprf.specs.Candidates.{digest_candidates}
 use Rattle.psi_walk.specs.Placing.{placing_of}
 use Rattle.psi_walk.specs.Tree.{slots_for}
