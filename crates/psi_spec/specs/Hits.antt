@@ -1,5 +1,5 @@
 -- Which items the receiver finds in the sender's lists.
-use Rattle.std.specs.Prelude.{◌+◌, ◌-◌, ◌==◌, ℕ, Bool, List, [], length, map, filter, slice_index_or, if◌then◌else◌}
+use Rattle.std.specs.Prelude.{◌+◌, ◌-◌, ◌==◌, ℕ, Bool, List, [], ◌∷◌, length, map, filter, slice_index_or, if◌then◌else◌}
 use Rattle.std.specs.List.{list_any}
 use Rattle.std.specs.Str.{bytes_eq}
 use Rattle.psi_spec.specs.Limits.{bins_for, rows_for}
@@ -34,6 +34,12 @@ is_hit r lists p =
 -- the receiver's items that are hit, in order
 unfoldable pub hit_items : ReceiverSide → List (List (List ℕ)) → List (List ℕ)
 hit_items r lists = map (λ p. p.item) (filter (is_hit r lists) r.placed)
+
+-- the items that are marked, in order
+abbrev pub marked : List Bool → List (List ℕ) → List (List ℕ)
+marked [] xs = []
+marked (is ∷ marks) [] = []
+marked (is ∷ marks) (x ∷ xs) = if is then x ∷ marked marks xs else marked marks xs
 
 -- what a receiver has of its deal and its items in their slots
 abbrev pub receiver_side : ReceiverDeal → List (List ℕ) → List Slot → ReceiverSide

@@ -2,7 +2,7 @@
 use Rattle.std.proofs.Common.{◌≡◌, ◌+◌, ◌<◌, ◌≤◌, ℕ, zero, suc, Bool, true, false, cond, List, [], ◌∷◌, ◌++◌, length, map, filter, take, drop, get_or, Err, refl, sym, ap, ap₂, ◌∙◌, subst, arith, append_assoc}
 use Rattle.std.proofs.lemmas.List.{append-nil, length-map, length-take-le, take_all}
 use Rattle.psi_spec.specs.Deals.{ReceiverDeal, zero_columns}
-use Rattle.psi_spec.specs.Hits.{ReceiverSide, hit_items, is_hit, receiver_side}
+use Rattle.psi_spec.specs.Hits.{ReceiverSide, hit_items, is_hit, marked, receiver_side}
 use Rattle.psi_spec.specs.Limits.{bins_for, rows_for}
 use Rattle.psi_spec.specs.Meeting.{Placed, placed_of}
 use Rattle.psi_spec.specs.Placement.{Slot}
@@ -12,7 +12,6 @@ use Rattle.psi_base.specs.Outside.{Outside, PrintsAll, printed_too}
 use Rattle.psi_base.specs.declared.faults.Fault.{Fault}
 use Rattle.psi_base.proofs.Printing.{printed_twice, refused_first, then_second}
 use Rattle.psi_receiver.specs.Receiving.{finder, hits_of}
-use Rattle.psi_top.specs.Receive.{marked}
 use Rattle.psi_top.proofs.Elements.{StandsAt, line_if}
 
 -- ---- which items are marked

@@ -1,6 +1,6 @@
 -- What `receive` does: it reads its items and its deal, places the items, opens the link, runs the receiver's end of a
 -- session, prints the items that are shown, and writes the record of the session.
-use Rattle.std.specs.Prelude.{◌≡◌, ◌+◌, ◌-◌, ◌*◌, ℕ, Bool, if◌then◌else◌, List, [], ◌∷◌, ◌++◌, take, drop, min, None, zero, suc}
+use Rattle.std.specs.Prelude.{◌≡◌, ◌+◌, ◌-◌, ◌*◌, ℕ, Bool, List, [], ◌∷◌, ◌++◌, take, drop, min, None, zero, suc}
 use Rattle.std.specs.Int.{w32, from_be_bytes}
 use Rattle.psi_spec.specs.Deals.{ReceiverDeal}
 use Rattle.psi_spec.specs.Frames.{tags_of}
@@ -48,12 +48,6 @@ shown_text xs deal slots taken = lines_text (hit_items (receiver_side deal xs sl
 -- the record of a session in which these bytes of the sender were taken
 unfoldable pub session_record : List (List ℕ) → ReceiverDeal → List Slot → List ℕ → List ℕ
 session_record xs deal slots taken = record_file slots (weave (own_stream deal (placed_of xs slots)) taken)
-
--- the items that are marked, in order
-abbrev pub marked : List Bool → List (List ℕ) → List (List ℕ)
-marked [] xs = []
-marked (is ∷ marks) [] = []
-marked (is ∷ marks) (x ∷ xs) = if is then x ∷ marked marks xs else marked marks xs
 
 -- the bytes that an end took are a sender's stream, its marks are those of the stream's lists, and its record went on
 -- with both streams

@@ -3,11 +3,11 @@ ghost use Rattle.std.specs.Prelude.{◌≡◌, ◌∷◌, Bool, List, ℕ, IfOk,
 ghost use Rattle.sha2.specs.Hashers.{Holds256};
 ghost use Rattle.sha2.specs.Sha256.{sha256};
 ghost use Rattle.psi_spec.specs.Deals.{ArePair, IsReceiverDeal, IsSenderDeal};
+ghost use Rattle.psi_spec.specs.Hits.{marked};
 ghost use Rattle.psi_spec.specs.Texts.{lines_text};
 ghost use Rattle.psi_words.specs.Words.{bad_word};
 ghost use Rattle.psi_words.specs.Form.{command_of};
 ghost use Rattle.psi_top.specs.Local.{local_receiver, local_sender, local_set, local_tree};
-ghost use Rattle.psi_top.specs.Receive.{marked};
 ghost use Rattle.psi_top.specs.Transcript.{writes};
 ghost use Rattle.psi_walk.specs.Tree.{closed, end_of, ended, ends, says};
 ghost use Rattle.psi_walk.specs.Walk.{Follows, MakesAll, Runs};

@@ -3,6 +3,7 @@ ghost use Rattle.std.specs.Prelude.{◌≡◌, ◌∷◌, [], ℕ, List, true, I
 ghost use Rattle.psi_spec.specs.DealFiles.{sealed};
 ghost use Rattle.psi_spec.specs.Deals.{IsReceiverDeal};
 ghost use Rattle.psi_spec.specs.Formulas.{item_digest};
+ghost use Rattle.psi_spec.specs.Hits.{marked};
 ghost use Rattle.psi_spec.specs.Limits.{bins_for};
 ghost use Rattle.psi_spec.specs.Meeting.{placed_of};
 ghost use Rattle.psi_spec.specs.Placement.{IsPlacementOf};
@@ -10,7 +11,7 @@ ghost use Rattle.psi_spec.specs.Records.{record_front};
 ghost use Rattle.psi_spec.specs.Texts.{lines_text};
 ghost use Rattle.psi_receiver.specs.Laws.{receiver_dialogue};
 ghost use Rattle.psi_receiver.specs.Running.{IsNewReceiver};
-ghost use Rattle.psi_top.specs.Receive.{IsHeard, marked, receive_rest, receive_tree};
+ghost use Rattle.psi_top.specs.Receive.{IsHeard, receive_rest, receive_tree};
 ghost use Rattle.psi_walk.specs.Placing.{placing_of};
 ghost use Rattle.psi_walk.specs.Tree.{end_of, ended, ends, places, puts, says, stopped};
 ghost use Rattle.psi_walk.specs.Walk.{Follows, Runs, StepsTalk, status_of};

@@ -1,8 +1,8 @@
 // Items that are printed, a line each. Nothing takes memory.
 ghost use Rattle.std.specs.Prelude.{◌≡◌, ◌∷◌, ◌++◌, [], Bool, List, ℕ, length};
+ghost use Rattle.psi_spec.specs.Hits.{marked};
 ghost use Rattle.psi_spec.specs.Texts.{lines_text};
 ghost use Rattle.psi_base.specs.Outside.{PrintsAll};
-ghost use Rattle.psi_top.specs.Receive.{marked};
 ghost use Rattle.psi_walk.specs.Tree.{says};
 ghost use Rattle.psi_walk.specs.Walk.{Makes};
 

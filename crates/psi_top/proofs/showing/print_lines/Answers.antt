@@ -1,10 +1,10 @@
 use Rattle.std.proofs.Common.{◌≡◌, ◌<◌, ◌∙◌, length, Err, true, false, ap, refl, sym, subst, arith}
 use Rattle.std.specs.declared.result.Result.{Result}
 use Rattle.std.proofs.lemmas.Result.{err_from_is_err_and}
+use Rattle.psi_spec.specs.Hits.{marked}
 use Rattle.psi_spec.specs.Texts.{lines_text}
 use Rattle.psi_base.specs.Outside.{PrintsAll}
 use Rattle.psi_base.specs.declared.faults.Fault.{Fault}
-use Rattle.psi_top.specs.Receive.{marked}
 use Rattle.psi_top.proofs.Elements.{stands_at}
 use Rattle.psi_top.proofs.Marks.{mark_stands, no_line, printed_line, refused_line}
 use Rattle.psi_top.proofs.showing.print_lines.Goals as goal
