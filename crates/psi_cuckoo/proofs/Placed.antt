@@ -1,22 +1,15 @@
 -- A full table is a placement.
 use Rattle.std.proofs.Common.{◌≡◌, ◌≢◌, ◌+◌, ◌-◌, ◌<◌, ℕ, List, [], ◌∷◌, zero, suc, Some, length, map, get_or, sym, ap, ◌∙◌, subst, arith, ⊎_elim, inl, inr}
 use Rattle.std.specs.Prelude.{slice_get, nat_eq, All, option_map}
-use Rattle.std.specs.List.{AllZip}
 use Rattle.std.specs.declared.option.Option.{Option}
 use Rattle.std.proofs.lemmas.Bool.{eqb-true, false_from_ne_true}
 use Rattle.std.proofs.lemmas.Option.{same_Some, none-some, slice_get_within, get_or_from_slice_get}
 use Rattle.std.proofs.lemmas.List.{length-map, get_or-map}
 use Rattle.std.proofs.lemmas.Map.Keys.{IsDistinct-from_apart}
 use Rattle.psi_spec.specs.Placement.{MayHave, IsPlacement, Slot}
+use Rattle.psi_spec.proofs.Lists.{AllZip-from_places}
 use Rattle.psi_cuckoo.specs.Table.{AreOccupants, AreSeated, IsFree, NameBins, slot_at, occupant_at, no_slot, slot_of}
 use Rattle.psi_cuckoo.specs.declared.slot.Slot.{Slot as RowSlot}
-
--- what holds at each place holds along two lists
-AllZip-from_places : {A B : Type 0} (R : A → B → Type 0) (xs : List A) (ys : List B) (d : A) (e : B) → length xs ≡ length ys → ((k : ℕ) → k < length xs → R (get_or xs k d) (get_or ys k e)) → AllZip R xs ys
-AllZip-from_places R [] [] d e long h = tt
-AllZip-from_places R [] (y ∷ ys) d e long h = absurd (omega arith)
-AllZip-from_places R (x ∷ xs) [] d e long h = absurd (omega arith)
-AllZip-from_places R (x ∷ xs) (y ∷ ys) d e long h = (h 0 (omega arith), AllZip-from_places R xs ys d e (omega arith) (λ k l. h (suc k) (omega arith)))
 
 -- each candidate below a number is a bin
 pub name_bins : (bins : ℕ) (candidates : List (List ℕ)) → All (λ rows. All (λ row. row < bins) rows) candidates → NameBins bins candidates

@@ -1,6 +1,6 @@
--- Elements of mapped and filtered lists, the first one that passes a test, and operators on two lists.
-use Rattle.std.proofs.Common.{◌≡◌, suc, zero, Bool, true, false, cond, ◌||◌, List, [], ◌∷◌, ◌++◌, length, map, filter, find, Contains, Some, refl, sym, ap, ◌∙◌, subst, arith}
-use Rattle.std.specs.List.{list_any}
+-- Elements of mapped and filtered lists, the first one that passes a test, and operators and relations on two lists.
+use Rattle.std.proofs.Common.{◌≡◌, ◌<◌, ℕ, suc, zero, Bool, true, false, cond, ◌||◌, List, [], ◌∷◌, ◌++◌, length, map, filter, find, get_or, Contains, Some, refl, sym, ap, ◌∙◌, subst, arith}
+use Rattle.std.specs.List.{AllZip, list_any}
 use Rattle.std.specs.Simd.Lanes.{zip2}
 use Rattle.std.proofs.lemmas.Bool.{false≢true}
 
@@ -103,3 +103,12 @@ filter_agree {A = A} p q (x ∷ xs) same =
     let rest : filter p xs ≡ filter q xs = filter_agree p q xs (λ y h. same y (Contains-later x xs y h)) in
     ap (λ (b : Bool). cond b (x ∷ filter p xs) (filter p xs)) here
     ∙ ap (λ (ys : List A). cond (q x) (x ∷ ys) ys) rest
+
+-- what holds at each place holds along two lists
+pub AllZip-from_places : {A B : Type 0} (R : A → B → Type 0) (xs : List A) (ys : List B) (d : A) (e : B)
+    → length xs ≡ length ys → ((k : ℕ) → k < length xs → R (get_or xs k d) (get_or ys k e)) → AllZip R xs ys
+AllZip-from_places R [] [] d e long h = tt
+AllZip-from_places R [] (y ∷ ys) d e long h = absurd (omega arith)
+AllZip-from_places R (x ∷ xs) [] d e long h = absurd (omega arith)
+AllZip-from_places R (x ∷ xs) (y ∷ ys) d e long h =
+    (h 0 (omega arith), AllZip-from_places R xs ys d e (omega arith) (λ k l. h (suc k) (omega arith)))
