@@ -1,5 +1,5 @@
 -- The laws of bits, of opened rows, of deals, of placements, and of what is shown.
-use Rattle.std.specs.Prelude.{◌≡◌, ◌≤◌, ◌<◌, ◌*◌, ◌^◌, ◌↔◌, ℕ, List, [], length, slice_index, slice_index_or, false}
+use Rattle.std.specs.Prelude.{◌≡◌, ◌≤◌, ◌<◌, ◌*◌, ◌^◌, ◌↔◌, ℕ, List, [], Some, length, slice_index, slice_index_or, false}
 use Rattle.psi_spec.specs.Limits.{bins_for}
 use Rattle.psi_spec.specs.Bits.{bit_of, xor, both, IsWord}
 use Rattle.psi_spec.specs.Columns.{key_stream, column, column_bytes, row_of}
@@ -8,6 +8,7 @@ use Rattle.psi_spec.specs.ColumnSets.{ColumnSets, masked_columns, chosen_columns
 use Rattle.psi_spec.specs.Deals.{ReceiverDeal, SenderDeal, IsReceiverDeal, IsSenderDeal, dealt_receiver, dealt_sender, ArePair}
 use Rattle.psi_spec.specs.DealFiles.{receiver_bytes, sender_bytes, receiver_of, sender_of}
 use Rattle.psi_spec.specs.OldDealFiles.{IsOldReceiverFile, IsOldSenderFile, old_receiver_of, old_sender_of}
+use Rattle.psi_spec.specs.Picking.{picked}
 use Rattle.psi_spec.specs.Placement.{Slot, IsPlacement, IsPlacementOf, stash_slots}
 use Rattle.psi_spec.specs.CrowdedLists.{IsCrowded}
 use Rattle.psi_spec.specs.Meeting.{Setup, IsSetup, ShowsCommon, setup_of}
@@ -117,3 +118,9 @@ abbrev pub CrowdedExcludesPlacement : Type 0
 CrowdedExcludesPlacement =
     (stash bins : ℕ) (candidates : List (List ℕ)) (items : List ℕ) (slots : List Slot)
     → IsCrowded stash candidates items → IsPlacement stash bins candidates slots → ⊥
+
+-- what is picked is a placement, whatever the candidates
+abbrev pub PickedIsPlacement : Type 0
+PickedIsPlacement =
+    (stash bins : ℕ) (candidates : List (List ℕ)) (slots : List Slot)
+    → picked stash bins candidates ≡ Some slots → IsPlacement stash bins candidates slots

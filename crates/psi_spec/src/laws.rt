@@ -16,6 +16,7 @@ ghost use Rattle.psi_spec.specs.Laws.{
   DealsShowCommon,
   StashShowsCommon,
   CrowdedExcludesPlacement,
+  PickedIsPlacement,
 };
 ghost use Rattle.psi_spec.specs.HidingLaws.{ChangesBits, SetsAreHidden, StreamsAreOver};
 ghost use Rattle.psi_spec.specs.SessionLaws.{
@@ -84,6 +85,11 @@ pub fn deals_show_common()
 /// the easy half of Hall's theorem, with the rows of the stash as the deficiency.
 pub fn crowded_excludes_placement()
     ensures { CrowdedExcludesPlacement }
+{}
+
+/// What is picked is a placement, whatever the candidates.
+pub fn picked_is_placement()
+    ensures { PickedIsPlacement }
 {}
 
 /// The sender's stream is the same for its items in any order, and so are the bytes of the whole session.
