@@ -1,5 +1,5 @@
 // Whether given slots are a placement.
-ghost use Rattle.std.specs.Prelude.{◌≡◌, ◌≢◌, ◌<◌, ◌+◌, ◌≤◌, ◌^◌, ℕ, [], All, Err, IfErr, IfOk, IsOkUnless, None, OnOk, Some, length, map, slice_index_or, take};
+ghost use Rattle.std.specs.Prelude.{◌≡◌, ◌≢◌, ◌<◌, ◌+◌, ◌≤◌, ◌^◌, [], All, Err, IfErr, IfOk, IsOkUnless, None, OnOk, Some, length, map, slice_index_or, take};
 ghost use Rattle.psi_spec.specs.Limits.{bins_for, limit_items, stash_limit};
 ghost use Rattle.psi_spec.specs.Placement.{IsPlacement};
 ghost use Rattle.psi_cuckoo.specs.Table.{AreSeated, IsTask, slot_of};

@@ -1,5 +1,5 @@
 // A placement of all items, or the items that exclude one.
-ghost use Rattle.std.specs.Prelude.{◌≡◌, ◌<◌, ◌+◌, ◌≤◌, ◌≢◌, ℕ, [], All, IfErr, IfNone, IfOk, IfSome, IsOkUnless, None, OnOk, Some, if◌then◌else◌, is_some, length, map};
+ghost use Rattle.std.specs.Prelude.{◌≡◌, ◌<◌, ◌+◌, ◌≤◌, ◌≢◌, [], All, IfErr, IfNone, IfOk, IfSome, IsOkUnless, None, OnOk, Some, if◌then◌else◌, is_some, length, map};
 ghost use Rattle.psi_spec.specs.Picking.{picked};
 ghost use Rattle.psi_spec.specs.Limits.{bins_for, limit_items, stash_limit};
 ghost use Rattle.psi_spec.specs.Placement.{IsPlacement};

@@ -3,7 +3,7 @@ ghost use Rattle.std.specs.Prelude.{◌≡◌, ◌<◌, ◌+◌, ◌-◌, ◌*�
 ghost use Rattle.psi_spec.specs.Placement.{MayHave, stash_slots};
 ghost use Rattle.psi_spec.specs.Picking.{choices_of, first_free};
 ghost use Rattle.psi_cuckoo.specs.Picks.{stash_slot};
-ghost use Rattle.psi_cuckoo.specs.Table.{AllTaken, AreOccupants, IsTask, IsTable, IsFree, Names, occupant_at, slot_at, slot_of};
+ghost use Rattle.psi_cuckoo.specs.Table.{AllTaken, AreOccupants, IsTask, IsFree, Names, occupant_at, slot_at, slot_of};
 
 use crate::slot::Slot;
 use psi_base::NoMemory;

@@ -1,5 +1,5 @@
 // Worked cases, sets at the edge, and small sets against a search through all their placements.
-ghost use Rattle.std.specs.Prelude.{◌<◌, ◌≤◌, ◌↔◌, ◌+◌, ◌^◌, length, All, IsTrue};
+ghost use Rattle.std.specs.Prelude.{◌<◌, ◌≤◌, ◌↔◌, ◌+◌, ◌^◌, All, IsTrue};
 
 use crate::{BadSlots, NoFit, Placement, Slot, check_placement, place};
 use psi_base::Places;

@@ -1,7 +1,6 @@
 // A whole session of a small end over a link in memory, whatever pieces its bytes come and go in.
-ghost use Rattle.std.specs.Prelude.{◌≡◌, ◌≤◌, [], ◌∷◌, ◌++◌, true, false, length, take, IsTrue, IfOk, OnErr, OnOk, ⊤};
-ghost use Rattle.psi_frames.specs.Expected.{seen};
-ghost use Rattle.psi_frames.specs.Script.{IsPending, MayCome, after_sending, after_taking, awaits, due_frame, over, sends, turn_of};
+ghost use Rattle.std.specs.Prelude.{◌≡◌, ◌≤◌, [], ◌∷◌, ◌++◌, true, false, take, ⊤};
+ghost use Rattle.psi_frames.specs.Script.{awaits, over, sends};
 
 use super::*;
 use psi_base::{MemWorld, NoMemory, Side, World};

@@ -1,5 +1,5 @@
 // The digests of eight messages.
-ghost use Rattle.std.specs.Prelude.{◌≡◌, ◌<◌, ◌≤◌, ◌+◌, ◌*◌, ℕ, List, [], length, slice_index_or};
+ghost use Rattle.std.specs.Prelude.{◌≡◌, ◌<◌, ◌≤◌, ◌+◌, ◌*◌, ℕ, [], slice_index_or};
 ghost use Rattle.sha2.specs.Sha256.{initial_hash_256, digest_bytes};
 ghost use Rattle.psi_lanes.specs.Lanes.{AreLanes, lane};
 ghost use Rattle.psi_lanes.specs.Digests.{AreDigests};

@@ -1,6 +1,5 @@
 // The sender's end over a link in memory: what it sends for a receiver's stream, and each refusal.
 ghost use Rattle.std.specs.Prelude.{◌≤◌, length};
-ghost use Rattle.psi_spec.specs.Limits.{file_limit};
 
 use crate::runs::{DONE, ZERO_SEED as Z, expect_run, words_of};
 use psi_base::{FILE_LIMIT, MemWorld, NoMemory};

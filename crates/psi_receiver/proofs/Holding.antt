@@ -28,9 +28,9 @@ use Rattle.psi_receiver.specs.declared.phase.Phase.{Phase}
 use Rattle.psi_receiver.specs.declared.phase.Phase.TheVariants as phase
 use Rattle.psi_receiver.specs.Own.{AreCarriable, AreCarried, AreOwnTags, AreShownBy, AreUnmarked, AreUnshown, IsMarkedList, IsMerging, Marked, marked_of, marks_of, own_tag_of, own_tags_in, slots_in}
 use Rattle.psi_receiver.specs.Phases.{first_of, next_phase, phase_after_column}
-use Rattle.psi_receiver.specs.Running.{HasFound, IsAwaiting, IsMemory, IsMergeable, IsSession, ShowsIn, Stands, TellsShown, answers, next_of, rest_in, running, stage_in, state_of}
+use Rattle.psi_receiver.specs.Running.{IsAwaiting, IsMemory, IsMergeable, IsSession, ShowsIn, Stands, TellsShown, next_of, rest_in, running, stage_in}
 use Rattle.psi_receiver.specs.Script.{no_floor}
-use Rattle.psi_receiver.proofs.Going.{block_due, some_columns, some_end}
+use Rattle.psi_receiver.proofs.Going.{block_due, some_end}
 use Rattle.psi_receiver.proofs.Hearing.{width_of}
 use Rattle.psi_receiver.proofs.Marks.{merging_starts}
 use Rattle.psi_receiver.proofs.Shown.{no_marks_carried, own_marks_are_carriable, shown_by_carried, slots_have_lists}

@@ -18,3 +18,4 @@ pub mod Received
 mod Holding
 mod Taking
 pub mod Beginning
+pub mod Marked

@@ -1,5 +1,5 @@
 // How far a session has come.
-ghost use Rattle.std.specs.Prelude.{◌≡◌, ◌<◌, ◌≤◌, length};
+ghost use Rattle.std.specs.Prelude.{◌≡◌, ◌<◌, ◌≤◌};
 ghost use Rattle.psi_spec.specs.Limits.{limit_items};
 ghost use Rattle.psi_spec.specs.Streams.{blocks_for};
 ghost use Rattle.psi_receiver.specs.Phases.{first_of, next_phase};

@@ -1,5 +1,5 @@
 // The receiver's end as a machine over frames.
-ghost use Rattle.std.specs.Prelude.{◌≡◌, ◌+◌, ◌*◌, [], ℕ, List, map, length, IfOk};
+ghost use Rattle.std.specs.Prelude.{◌≡◌, ◌+◌, ◌*◌, [], map, length, IfOk};
 ghost use Rattle.psi_spec.specs.Deals.{IsReceiverDeal};
 ghost use Rattle.psi_spec.specs.Formulas.{item_digest};
 ghost use Rattle.psi_spec.specs.Limits.{bins_for};

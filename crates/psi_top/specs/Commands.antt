@@ -2,17 +2,17 @@
 use Rattle.std.specs.Prelude.{◌≡◌, ℕ, List, Option, Some, None}
 use Rattle.psi_words.specs.Words.{bad_word}
 use Rattle.psi_base.specs.Outside.{Known, Outside}
-use Rattle.psi_top.specs.Audit.{audit_tree}
-use Rattle.psi_top.specs.Deal.{deal_tree}
+use Rattle.psi_auditor.specs.Audit.{audit_tree}
+use Rattle.psi_dealer.specs.Deal.{deal_tree}
 use Rattle.psi_words.specs.Form.{command_of}
-use Rattle.psi_top.specs.Local.{local_tree}
-use Rattle.psi_top.specs.Make.{make_tree}
-use Rattle.psi_top.specs.Receive.{receive_tree}
-use Rattle.psi_top.specs.Renew.{renew_tree}
-use Rattle.psi_top.specs.Send.{send_tree}
+use Rattle.psi_local.specs.Local.{local_tree}
+use Rattle.psi_local.specs.Make.{make_tree}
+use Rattle.psi_link.specs.Receive.{receive_tree}
+use Rattle.psi_dealer.specs.Renew.{renew_tree}
+use Rattle.psi_link.specs.Send.{send_tree}
 use Rattle.psi_walk.specs.Tree.{Tree, End, stopped}
-use Rattle.psi_top.specs.Trial.{trial_tree}
-use Rattle.psi_top.specs.Twin.{twin_tree}
+use Rattle.psi_local.specs.Trial.{trial_tree}
+use Rattle.psi_twin.specs.Twin.{twin_tree}
 use Rattle.psi_walk.specs.Walk.{Runs}
 use Rattle.psi_words.specs.declared.form.Command.{Command}
 use Rattle.psi_words.specs.declared.form.Command.TheVariants.{Audit, Deal, Local, Make, Receive, Renew, Send, Trial, Twin}

@@ -10,6 +10,16 @@ use Rattle.psi_walk.specs.Tree.{Tree, End}
 use Rattle.psi_texts.specs.declared.status.Status.{Status}
 use Rattle.psi_texts.specs.declared.status.Status.TheVariants.{Done, BadWords}
 use Rattle.psi_top.specs.Commands.{tree_of}
+use Rattle.psi_words.specs.declared.form.Command.TheVariants.{Audit, Deal, Local, Make, Receive, Renew, Send, Trial, Twin}
+use Rattle.psi_auditor.specs.AuditPromises.{AuditPromise}
+use Rattle.psi_dealer.specs.Deal.{DealPromise}
+use Rattle.psi_dealer.specs.RenewPromises.{RenewPromise}
+use Rattle.psi_link.specs.HidingPromises.{ReceivePromise}
+use Rattle.psi_link.specs.SendPromises.{SendPromise}
+use Rattle.psi_local.specs.LocalPromises.{LocalPromise}
+use Rattle.psi_local.specs.Make.{MakePromise}
+use Rattle.psi_local.specs.TrialPromises.{TrialPromise}
+use Rattle.psi_twin.specs.TwinPromises.{TwinPromise}
 
 -- ---- words
 
@@ -52,3 +62,27 @@ abbrev pub DoneLeaves : Known → List (List ℕ) → Outside → End → Type 0
 DoneLeaves known words before end =
     (command : Command) → command_of words ≡ Some command → end.status ≡ Done
     → Leaves known words (tree_of command words) before end
+
+-- ---- what the command itself promises
+
+-- the promise of a command, which stands in the crate of the command
+abbrev pub promise_of : Command → Known → List (List ℕ) → Outside → End → Type 0
+promise_of Deal known words before end = DealPromise words before end
+promise_of Local known words before end = LocalPromise known words before end
+promise_of Send known words before end = SendPromise known words before end
+promise_of Receive known words before end = ReceivePromise known words before end
+promise_of Make known words before end = MakePromise words before end
+promise_of Trial known words before end = TrialPromise words before end
+promise_of Audit known words before end = AuditPromise known words before end
+promise_of Twin known words before end = TwinPromise known words before end
+promise_of Renew known words before end = RenewPromise known words before end
+
+-- the same by the bad place of the words and the command that they name
+abbrev pub PromisedBy : Known → List (List ℕ) → Outside → End → Option ℕ → Option Command → Type 0
+PromisedBy known words before end (Some at) command = Unit {0}
+PromisedBy known words before end None None = ⊥
+PromisedBy known words before end None (Some command) = promise_of command known words before end
+
+-- words without a bad place name a command, and its promise is kept
+abbrev pub Promised : Known → List (List ℕ) → Outside → End → Type 0
+Promised known words before end = PromisedBy known words before end (bad_word words) (command_of words)

@@ -1,38 +1,26 @@
 // The top call.
 ghost use Rattle.psi_words.specs.Words.{bad_word};
-ghost use Rattle.psi_top.specs.AuditPromises.{AuditCompletes, IsOfAudit};
 ghost use Rattle.psi_top.specs.Commands.{Answers};
-ghost use Rattle.psi_top.specs.Deal.{DealWrites};
-ghost use Rattle.psi_top.specs.HidingPromises.{ReceiveHides};
-ghost use Rattle.psi_top.specs.LocalPromises.{IsOfLocal, IsWired, LocalCompletes, LocalShows};
-ghost use Rattle.psi_top.specs.Make.{MakeWrites};
+ghost use Rattle.psi_top.specs.Headline.{IsWired, LocalShows, ReceiveFinds, ReceiveHides, TwinHides};
+ghost use Rattle.psi_top.specs.Promises.{CountsBy, DoneLeaves, IsBadWords, IsOfCommand, OnTold, Promised, RunsThrough};
 ghost use Rattle.psi_walk.specs.Promises.{Completes, IsDue, StandsAt};
-ghost use Rattle.psi_top.specs.Promises.{CountsBy, DoneLeaves, IsBadWords, IsOfCommand, OnTold, RunsThrough};
-ghost use Rattle.psi_top.specs.ReceivePromises.{IsOfReceive, ReceiveFinds, ReceiveServes};
-ghost use Rattle.psi_top.specs.RenewPromises.{IsOfRenew, RenewCompletes, RenewWrites};
-ghost use Rattle.psi_top.specs.SendPromises.{IsOfSend, SendServes};
 ghost use Rattle.psi_walk.specs.Tree.{ended};
-ghost use Rattle.psi_top.specs.TrialPromises.{IsOfTrial, TrialCompletes, TrialPrints};
-ghost use Rattle.psi_top.specs.TwinPromises.{IsOfTwin, TwinCompletes, TwinHides};
 
-use crate::audit::audit_command;
-use crate::deal::deal_command;
-use crate::local::local_command;
-use crate::make::make_command;
-use crate::receive::receive_command;
-use crate::renew::renew_command;
-use crate::send::send_command;
-use crate::trial::trial_command;
-use crate::twin::twin_command;
+use psi_auditor::audit_command;
 use psi_base::{Words, World};
+use psi_dealer::{deal_command, renew_command};
+use psi_link::{receive_command, send_command};
+use psi_local::{local_command, make_command, trial_command};
 use psi_texts::Status;
+use psi_twin::twin_command;
 use psi_walk::Outcome;
 use psi_words::{Command, bad_word, named_command};
 use std::alloc::Global;
 
 // Reads the words, and calls the command that they name.
 fn answer<W: World>(alloc: Global, words: &Words, world: &mut W) -> Outcome
-    ensures { Answers W.known words.now (W.outside world.old) (ended result (W.outside world.new)) }
+    ensures answers { Answers W.known words.now (W.outside world.old) (ended result (W.outside world.new)) }
+    ensures promised { Promised W.known words.now (W.outside world.old) (ended result (W.outside world.new)) }
 {
     if let Some(at) = bad_word(words) {
         return Outcome::of(Status::BadWords { at });
@@ -86,12 +74,10 @@ pub fn run<W: World>(alloc: Global, words: &Words, world: &mut W) -> Outcome
     // What a run that is done read and left, in every world.
     ensures done { DoneLeaves W.known words.now (W.outside world.old) (ended result (W.outside world.new)) }
 
-    // `deal` writes the two files of a pair of deals, and changes nothing else.
-    ensures dealt { DealWrites words.now (W.outside world.old) (ended result (W.outside world.new)) }
-
-    // What `local` may answer, in its own words: its files are judged in order, and then the receiver's items are
-    // placed, the lines printed and the record written. It sends and takes nothing.
-    ensures local { IsOfLocal W.known words.now (W.outside world.old) (ended result (W.outside world.new)) }
+    // What the command itself promises, in its own words: `promise_of` names for each command the promise that stands in
+    // its crate. Each says what the command may answer and why, what it leaves where it is done, and from what it is
+    // done. Those that make the headline are spelled out below.
+    ensures promised { Promised W.known words.now (W.outside world.old) (ended result (W.outside world.new)) }
 
     // Where `local` is done, the outcome's slots are a placement of the receiver's items. With it `local` printed every
     // common item, and each other printed item shares its tag with a named sender item. It wrote the record of the
@@ -100,28 +86,6 @@ pub fn run<W: World>(alloc: Global, words: &Words, world: &mut W) -> Outcome
 
     // Only a run that is done and ran a session of both ends has such a digest.
     ensures wire { IsWired words.now (ended result (W.outside world.new)) }
-
-    // From valid lists and items that have a placement, `local` is done where no fault was counted or the world is
-    // steady, or memory was wanting.
-    ensures completed { LocalCompletes words.now (W.outside world.old) (ended result (W.outside world.new)) }
-
-    // What `send` may answer, in its own words: its files are judged in order, then the link is opened, and then the
-    // session is run. Where it is done it took a receiver's stream, and sent the sender's for it.
-    ensures send { IsOfSend W.known words.now (W.outside world.old) (ended result (W.outside world.new)) }
-
-    // From valid files and a peer whose bytes begin with a receiver's stream, `send` is done where no fault was counted
-    // or the world is steady, or memory was wanting.
-    ensures served { SendServes words.now (W.outside world.old) (ended result (W.outside world.new)) }
-
-    // What `receive` may answer, in its own words: its files are judged in order, then its items are placed, the link
-    // is opened and the session is run. Where it is done it took a sender's stream and sent its own, printed the items
-    // that are hit in the lists that it took, a line each, and wrote the record of the session; the outcome carries
-    // the placement.
-    ensures receive { IsOfReceive W.known words.now (W.outside world.old) (ended result (W.outside world.new)) }
-
-    // From valid files, items that have a placement and a peer whose bytes begin with a sender's stream, `receive` is
-    // done where no fault was counted or the world is steady, or memory was wanting.
-    ensures received { ReceiveServes words.now (W.outside world.old) (ended result (W.outside world.new)) }
 
     // For an honest peer, whatever its list, `receive` prints every common item, and each other printed item shares its
     // tag with a named sender item.
@@ -133,56 +97,12 @@ pub fn run<W: World>(alloc: Global, words: &Words, world: &mut W) -> Outcome
     // the changed columns a receiver of the other list sends byte for byte the same.
     ensures hides { ReceiveHides W.known words.now (W.outside world.old) (ended result (W.outside world.new)) }
 
-    // `make` writes the two made files, and changes nothing else.
-    ensures made { MakeWrites words.now (W.outside world.old) (ended result (W.outside world.new)) }
-
-    // What `trial` may answer, in its own words: the first made list is placed, and then the text is printed. It sends
-    // and takes nothing.
-    ensures trial { IsOfTrial words.now (W.outside world.old) (ended result (W.outside world.new)) }
-
-    // Where `trial` is done, the outcome's slots are a placement of the first made list. With it `trial` printed how
-    // large the session was and how many items are shown, and the outcome has the SHA-256 of the session's bytes.
-    ensures tried { TrialPrints words.now (W.outside world.old) (ended result (W.outside world.new)) }
-
-    // From a first list that has a placement, `trial` is done where no fault was counted or the world is steady, or
-    // memory was wanting.
-    ensures through_trial { TrialCompletes words.now (W.outside world.old) (ended result (W.outside world.new)) }
-
-    // What `audit` may answer, in its own words: its files are judged in order, then the deals, the recorded slots and
-    // the recorded frames. Where it is done the deals are a pair, the slots are a placement of the receiver's items,
-    // the frames are those of the session with it, and the text of what is shown and of each collision was printed.
-    ensures audited { IsOfAudit W.known words.now (W.outside world.old) (ended result (W.outside world.new)) }
-
-    // From valid lists, a pair of deals and a record of their session, `audit` is done where no fault was counted or
-    // the world is steady, or memory was wanting.
-    ensures consistent { AuditCompletes words.now (W.outside world.old) (ended result (W.outside world.new)) }
-
-    // What `twin` may answer, in its own words: its files are judged in order, then the deals and the numbers of the
-    // items; the first list is placed, then the second, and then both files are written. It sends and takes nothing.
-    ensures twinned { IsOfTwin W.known words.now (W.outside world.old) (ended result (W.outside world.new)) }
-
     // Where `twin` is done, the outcome's placements are those of both lists. It wrote the receiver's stream of the
     // first over the dealt columns, and the changed columns, over which the second has that same stream. And over
     // arbitrary columns, for these two placed sets: the change is its own inverse, keeps each column that the sender
     // chose, and gives the same stream; so what a sender sees does not tell which of both sets the receiver has. With
     // `shown` and `found`, what is printed, this is all that psi promises to both firms.
     ensures hidden { TwinHides W.known words.now (W.outside world.old) (ended result (W.outside world.new)) }
-
-    // From valid lists of one number of items that both have a placement, and a pair of deals, `twin` is done where no
-    // fault was counted or the world is steady, or memory was wanting.
-    ensures changed { TwinCompletes words.now (W.outside world.old) (ended result (W.outside world.new)) }
-
-    // `renew` reads the file of version 1 of either end's deal, writes the file of version 2 of that deal for the same
-    // end, and changes nothing else.
-    ensures renewed { RenewWrites W.known words.now (W.outside world.old) (ended result (W.outside world.new)) }
-
-    // What `renew` may answer, in its own words: its first file is judged, and then the second is written. It sends and
-    // takes nothing.
-    ensures renew { IsOfRenew W.known words.now (W.outside world.old) (ended result (W.outside world.new)) }
-
-    // From a file of version 1, `renew` is done where no fault was counted or the world is steady, or memory was
-    // wanting.
-    ensures through_renew { RenewCompletes words.now (W.outside world.old) (ended result (W.outside world.new)) }
 {
     answer(alloc, words, world)
 }

@@ -2,7 +2,7 @@
 use Rattle.std.proofs.Common.{◌≡◌, inl, inr, ℕ, false, List, [], Option, Some, None, Ok, Err, refl, sym, subst}
 use Rattle.std.specs.declared.result.Result.{Result}
 use Rattle.psi_spec.specs.DealFiles.{receiver_of, receiver_size, sender_of, sender_size}
-use Rattle.psi_spec.specs.Deals.{ReceiverDeal, SenderDeal}
+use Rattle.psi_spec.specs.Deals.{ReceiverDeal, SenderDeal, IsReceiverDeal, IsSenderDeal}
 use Rattle.psi_spec.specs.Items.{BadLine, first_bad, items_of}
 use Rattle.psi_spec.specs.Limits.{file_limit, record_limit}
 use Rattle.psi_spec.specs.Placement.{Slot}
@@ -22,6 +22,7 @@ use Rattle.psi_walk.specs.Promises.{IsAnswered, IsSilent, IsUnread, Leaves, WasR
 use Rattle.psi_walk.specs.Tree.{Tree, reads, decides, End}
 use Rattle.psi_texts.specs.declared.status.Status.{Status}
 use Rattle.psi_texts.specs.declared.status.Status.TheVariants as status
+use Rattle.psi_deal.proofs.Faultless.{good_from_none, good_receiver, good_sender}
 
 -- ---- any judgement
 
@@ -275,3 +276,12 @@ pub answered_old : (known : Known) (words : List (List ℕ)) (word : ℕ) (next 
     → AtFile known words before word file_limit (old_deal_in word) slots why after (λ deal. IsAnswered known words false (next deal) before slots why after)
 unfolding reads_old
 answered_old known words word next before slots why after h = answered_file known words word file_limit (old_deal_in word) next before slots why after h
+
+-- the deal of a file that was read and judged
+pub sender_deal_of : (known : Known) (words : List (List ℕ)) (before : Outside) (word : ℕ) (deal : SenderDeal) → HasSenderDeal known words before word deal → IsSenderDeal deal
+sender_deal_of known words before word deal h =
+    subst IsSenderDeal (sym h.spelled) (good_sender h.bytes h.read.are_bytes (good_from_none 1 sender_size h.bytes h.good))
+
+pub receiver_deal_of : (known : Known) (words : List (List ℕ)) (before : Outside) (word : ℕ) (deal : ReceiverDeal) → HasReceiverDeal known words before word deal → IsReceiverDeal deal
+receiver_deal_of known words before word deal h =
+    subst IsReceiverDeal (sym h.spelled) (good_receiver h.bytes h.read.are_bytes (good_from_none 0 receiver_size h.bytes h.good))

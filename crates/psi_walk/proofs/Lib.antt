@@ -2,12 +2,16 @@ pub mod Answered
 pub mod Carried
 pub mod Counted
 pub mod Digests
+pub mod Elements
 pub mod JudgedFiles
 pub mod Laws
 pub mod Left
+pub mod MarkedLines
+pub mod Placings
 pub mod Ready
 pub mod Standing
 pub mod Through
 pub mod Unplaced
 pub mod Walked
 pub mod Walks
+pub mod Wired

@@ -1,14 +1,20 @@
 -- What makes a tree ready.
-use Rattle.std.proofs.Common.{◌≡◌, ℕ, List, Option, Some, None, Ok, refl, sym, subst}
+use Rattle.std.proofs.Common.{◌≡◌, ◌≤◌, ℕ, List, length, Option, Some, None, Ok, refl, sym, subst, arith}
 use Rattle.std.specs.declared.result.Result.{Result}
 use Rattle.psi_spec.specs.Items.{first_bad, items_of}
 use Rattle.psi_words.specs.Words.{word_at}
 use Rattle.psi_base.specs.Outside.{Outside, Files}
 use Rattle.psi_walk.specs.Due.{Contents, told}
-use Rattle.psi_walk.specs.Files.{items_in}
+use Rattle.psi_walk.specs.Files.{items_in, receiver_in, sender_in}
 use Rattle.psi_walk.specs.Promises.{HasBytes, IsReady}
 use Rattle.psi_walk.specs.Tree.{Tree, decides}
 use Rattle.psi_texts.specs.declared.status.Status.{Status}
+use Rattle.psi_spec.specs.DealFiles.{receiver_bytes, receiver_size, sender_bytes, sender_size}
+use Rattle.psi_spec.specs.Deals.{IsReceiverDeal, IsSenderDeal, ReceiverDeal, SenderDeal}
+use Rattle.psi_spec.specs.Limits.{file_limit}
+use Rattle.psi_spec.proofs.DealFiles.{length-receiver_bytes, length-sender_bytes, receiver_files_read_back, sender_files_read_back}
+use Rattle.psi_deal.specs.BadDeals.{bad_deal}
+use Rattle.psi_deal.proofs.Faultless.{none_from_good, receiver_file_is_good, sender_file_is_good}
 
 -- a file that is there
 pub is_there : (files : Files) (words : List (List ℕ)) (word : ℕ) (bytes : List ℕ) → files (word_at words word) ≡ Some bytes → HasBytes (told (Some files) words) word bytes
@@ -29,3 +35,22 @@ items_ready words bytes word none = rw none refl
 pub ready_told : (files : Files) (words : List (List ℕ)) (before : Outside) (tree : Tree) → before.files ≡ Some files → IsReady (told (Some files) words) before tree
     → IsReady (told before.files words) before tree
 ready_told files words before tree is r = subst (λ (o : Option Files). IsReady (told o words) before tree) (sym is) r
+
+-- the file of a deal
+pub sender_ready : (word : ℕ) (deal : SenderDeal) → IsSenderDeal deal → sender_in word (sender_bytes deal) ≡ Ok deal
+unfolding sender_in
+sender_ready word deal is =
+    let none : bad_deal 1 sender_size (sender_bytes deal) ≡ None = none_from_good 1 sender_size (sender_bytes deal) (sender_file_is_good deal is) in
+    rw (none, sender_files_read_back deal is) refl
+
+pub sender_file_is_short : (deal : SenderDeal) → IsSenderDeal deal → length (sender_bytes deal) ≤ file_limit
+sender_file_is_short deal is = omega (arith, length-sender_bytes deal is)
+
+pub receiver_ready : (word : ℕ) (deal : ReceiverDeal) → IsReceiverDeal deal → receiver_in word (receiver_bytes deal) ≡ Ok deal
+unfolding receiver_in
+receiver_ready word deal is =
+    let none : bad_deal 0 receiver_size (receiver_bytes deal) ≡ None = none_from_good 0 receiver_size (receiver_bytes deal) (receiver_file_is_good deal is) in
+    rw (none, receiver_files_read_back deal is) refl
+
+pub receiver_file_is_short : (deal : ReceiverDeal) → IsReceiverDeal deal → length (receiver_bytes deal) ≤ file_limit
+receiver_file_is_short deal is = omega (arith, length-receiver_bytes deal is)

@@ -5,7 +5,7 @@ use Rattle.psi_spec.specs.CrowdedLists.{touched_by}
 use Rattle.psi_spec.specs.Frames.{AreBytes}
 use Rattle.psi_spec.specs.Placement.{Slot}
 use Rattle.psi_base.specs.Outside.{Known, Outside}
-use Rattle.psi_walk.specs.Tree.{Placing, Tree, reads, refuses, places, opens, talks, ends, Effect, says, puts, decides, End, stopped, end_of, with_slots}
+use Rattle.psi_walk.specs.Tree.{Placing, Tree, reads, refuses, places, opens, talks, ends, Effect, says, puts, decides, End, stopped, end_of, with_slots, ended}
 use Rattle.psi_frames.specs.Dialogue.{Dialogue, Talks}
 use Rattle.psi_frames.specs.declared.turns.EndFault.{EndFault}
 use Rattle.psi_walk.specs.Walk.{Places, StepsTalk, crowded, cut, passed, placed, talk_status, starved, hungry, given_up, refused, gave_up, all_done, IsVerdict, Does, Follows, Runs, Settles, Steps, StepsRead}
@@ -115,6 +115,11 @@ places_out known words word set next before (status.NoPlacement place items touc
     same e f = ap₂ (λ (p t : ℕ). status.NoPlacement p items t) e f
 places_out known words word set next before status.NoMemory h = hungry refl refl
 places_out known words word set next before _ h = absurd h
+
+-- a run whose answer was made an outcome
+pub run_of : (known : Known) (words : List (List ℕ)) (tree : Tree) (before after : Outside) (answer : Result Outcome Status) (outcome : Outcome)
+    → ended outcome after ≡ end_of answer after → Runs known words tree before (end_of answer after) → Runs known words tree before (ended outcome after)
+run_of known words tree before after answer outcome same h = subst (Runs known words tree before) (sym same) h
 
 -- what every exit of a command may cite
 pub ruleset walk = (starves, starves_out, ends_done, decides_ok, settles_out, places_out)

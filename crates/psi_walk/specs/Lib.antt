@@ -1,5 +1,7 @@
 pub mod Due
 pub mod Files
+pub mod Hiding
+pub mod Inputs
 pub mod JudgedFiles
 pub mod Placing
 pub mod Promises

@@ -5,10 +5,12 @@
 
 mod outcome;
 mod placing;
+mod showing;
 mod steps;
 
 pub use outcome::{Outcome, outcome_of};
 pub use placing::place_items;
+pub use showing::print_shown;
 pub use steps::{
     judge_record, open_link, print_text, read_bytes, read_items, read_old_deal, read_receiver_deal,
     read_sender_deal, session_status, status, write_word,

@@ -1,4 +1,4 @@
-use Rattle.std.proofs.Common.{◌≡◌, arith, ℕ, List, [], length, refl, sym, ap, subst, ◌∙◌, inl, inr}
+use Rattle.std.proofs.Common.{◌≡◌, arith, ℕ, List, [], refl, sym, ap, subst, ◌∙◌, inl, inr}
 use Rattle.psi_spec.specs.Frames.{column_frame, layout}
 use Rattle.psi_spec.specs.Matrices.{column_of}
 use Rattle.psi_frames.specs.Boxes.{OutboxState}

@@ -1,0 +1,3 @@
+pub mod Deal
+pub mod Renew
+pub mod RenewPromises

@@ -1,0 +1,7 @@
+pub mod Heard
+pub mod HidingLaws
+pub mod HonestLaws
+pub mod ReceiveLaws
+pub mod ReceivePromise
+pub mod SendLaws
+pub mod StreamLists

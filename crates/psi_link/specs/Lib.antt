@@ -1,0 +1,5 @@
+pub mod HidingPromises
+pub mod Receive
+pub mod ReceivePromises
+pub mod Send
+pub mod SendPromises

@@ -1,0 +1,4 @@
+pub mod ColumnFiles
+pub mod TwinLaws
+pub mod TwinSteps
+pub mod TwinVerdicts
