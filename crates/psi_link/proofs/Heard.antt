@@ -1,5 +1,5 @@
 -- A session of the receiver that was done: what is printed and kept of it.
-use Rattle.std.proofs.Common.{◌≡◌, ℕ, Bool, true, List, [], ◌∷◌, ◌++◌, length, None, Some, Ok, Err, sym, ap, ap₂, ◌∙◌, subst}
+use Rattle.std.proofs.Common.{◌≡◌, ℕ, Bool, false, true, List, [], ◌∷◌, ◌++◌, length, None, Some, Ok, Err, sym, ap, ap₂, ◌∙◌, subst}
 use Rattle.std.specs.declared.result.Result.{Result}
 use Rattle.psi_spec.specs.DealFiles.{sealed}
 use Rattle.psi_spec.specs.Deals.{ReceiverDeal, IsReceiverDeal}
@@ -15,12 +15,12 @@ use Rattle.psi_base.specs.Outside.{Known, Outside}
 use Rattle.psi_receiver.specs.Laws.{own_stream, receiver_dialogue}
 use Rattle.psi_receiver.specs.Receiving.{Received}
 use Rattle.psi_link.specs.Receive.{IsHeard, session_record, shown_text, shows_and_keeps}
-use Rattle.psi_walk.specs.Tree.{Effect, says, puts, Placing, Tree, places, talks, ends, End, ended, stopped}
+use Rattle.psi_walk.specs.Tree.{Effect, says, puts, Placing, Tree, places, talks, holds, ends, End, ended, stopped}
 use Rattle.psi_walk.specs.Walk.{Follows, Makes, Places, Runs, StepsTalk, status_of}
 use Rattle.psi_texts.specs.declared.status.Status.{Status}
 use Rattle.psi_texts.specs.declared.status.Status.TheVariants as status
 use Rattle.psi_link.proofs.StreamLists.{lists_of_stream}
-use Rattle.psi_walk.proofs.Walks.{ends_done, talks_on}
+use Rattle.psi_walk.proofs.Walks.{ends_done, held_on, talks_on}
 use Rattle.psi_walk.proofs.Carried.{places_last}
 use Rattle.psi_walk.proofs.Unplaced.{PlacesNone}
 use Rattle.psi_receiver.proofs.Marked.{length-hits_of, marked_hits}
@@ -70,19 +70,20 @@ pub session_goes_on : (known : Known) (words : List (List ℕ)) (xs : List (List
     → IsReceiverDeal deal → IsPlacementOf deal.stash deal.key (bins_for (length xs)) xs slots → log ≡ record_front slots
     → StepsTalk known words (receiver_dialogue deal (placed_of xs slots)) (IsHeard deal (placed_of xs slots) log shown log') before (Ok tt) after
     → Follows known words true (ends None (to_do xs shown log')) after end
-    → Runs known words (talks (receiver_dialogue deal (placed_of xs slots)) (λ taken. ends None (shows_and_keeps xs deal slots taken))) before end
+    → Runs known words (talks (receiver_dialogue deal (placed_of xs slots)) (λ taken. holds (ends None (shows_and_keeps xs deal slots taken)))) before end
 session_goes_on known words xs deal slots log shown log' before after end is placement front talk rest =
     let long = length-placement deal.stash deal.key (bins_for (length xs)) xs slots placement in
-    talk.2 (λ taken. ends None (shows_and_keeps xs deal slots taken)) end
+    talk.2 (λ taken. holds (ends None (shows_and_keeps xs deal slots taken))) end
+    (held_on known words false (ends None (shows_and_keeps xs deal slots talk.0)) after end
     (subst (λ (effects : List Effect). Follows known words true (ends None effects) after end)
-    (sym (heard_effects xs deal slots log shown log' talk.0 is long front talk.1)) rest)
+    (sym (heard_effects xs deal slots log shown log' talk.0 is long front talk.1)) rest))
 
 -- the same of an end that has this deal and these items in their slots
 pub session_on : (known : Known) (words : List (List ℕ)) (xs : List (List ℕ)) (deal : ReceiverDeal) (slots : List Slot) (own : ReceiverDeal) (placed : List Placed) (log : List ℕ) (shown : List Bool) (log' : List ℕ) (before after : Outside) (end : End)
     → IsReceiverDeal deal → IsPlacementOf deal.stash deal.key (bins_for (length xs)) xs slots → own ≡ deal → placed ≡ placed_of xs slots → log ≡ record_front slots
     → StepsTalk known words (receiver_dialogue own placed) (IsHeard own placed log shown log') before (Ok tt) after
     → Follows known words true (ends None (to_do xs shown log')) after end
-    → Runs known words (talks (receiver_dialogue deal (placed_of xs slots)) (λ taken. ends None (shows_and_keeps xs deal slots taken))) before end
+    → Runs known words (talks (receiver_dialogue deal (placed_of xs slots)) (λ taken. holds (ends None (shows_and_keeps xs deal slots taken)))) before end
 session_on known words xs deal slots own placed log shown log' before after end is placement same_deal same_placed front talk rest =
     session_goes_on known words xs deal slots log shown log' before after end is placement front
     (subst (λ (d : ReceiverDeal). StepsTalk known words (receiver_dialogue d (placed_of xs slots)) (IsHeard d (placed_of xs slots) log shown log') before (Ok tt) after) same_deal

@@ -28,7 +28,7 @@ use Rattle.psi_walk.specs.Promises.{IsAnswered, IsFailedEffect, IsHungry, IsNotT
 use Rattle.psi_link.specs.Receive.{receive_rest, receive_tree, sender_link, session_record, shown_text, shows_and_keeps}
 use Rattle.psi_walk.specs.Placing.{placing_of, slots_with}
 use Rattle.psi_link.specs.ReceivePromises.{AfterSession, CanReceive, connected, IsAtHelloOrCounted, ReceiveAnswers, ReceiveServes, exchanged, hit_lines, kept_record}
-use Rattle.psi_walk.specs.Tree.{carrying, Effect, says, puts, places, talks, ends, End, stopped}
+use Rattle.psi_walk.specs.Tree.{carrying, Effect, says, puts, places, talks, holds, ends, End, stopped}
 use Rattle.psi_walk.specs.Walk.{IsNotPlaced, IsPicked, Runs}
 use Rattle.psi_texts.specs.declared.status.Status.{Status}
 use Rattle.psi_texts.specs.declared.status.Status.TheVariants as status
@@ -268,7 +268,7 @@ of_end known words before mid placed text bytes same _ after done session h hung
 of_talk : (known : Known) (words : List (List ℕ)) (before : Outside) (xs : List (List ℕ)) (deal : ReceiverDeal) (slots : List Slot) (placed rest : List (List Slot))
     → HasPlaced known words before xs deal slots placed → (why : Status) (after : Outside)
     → (why ≡ status.Done → ReceiveAnswers known words before placed why after)
-    → IsAnswered known words false (talks (receiver_dialogue deal (placed_of xs slots)) (λ taken. ends None (shows_and_keeps xs deal slots taken))) (connected words before) rest why after
+    → IsAnswered known words false (talks (receiver_dialogue deal (placed_of xs slots)) (λ taken. holds (ends None (shows_and_keeps xs deal slots taken)))) (connected words before) rest why after
     → ReceiveAnswers known words before placed why after
 of_talk known words before xs deal slots placed rest has why after done (inl h) = of_session known words before xs deal slots placed has why after h.0
 of_talk known words before xs deal slots placed rest has why after done (inr h) =

@@ -22,7 +22,7 @@ use Rattle.psi_walk.specs.JudgedFiles.{HasItems, HasSenderDeal}
 use Rattle.psi_walk.specs.Promises.{IsAnswered, IsNotTalked, IsOfEnd, IsReady, IsSilent, IsUnopened, IsUnread, Leaves}
 use Rattle.psi_link.specs.Send.{receiver_link, send_rest, send_tree}
 use Rattle.psi_link.specs.SendPromises.{CanServe, IsEarlyOrCounted, SendAnswers, Served, WithFiles, listening, SendPromise}
-use Rattle.psi_walk.specs.Tree.{Effect, talks, ends, End}
+use Rattle.psi_walk.specs.Tree.{Effect, talks, holds, ends, End}
 use Rattle.psi_texts.specs.declared.status.Status.{Status}
 use Rattle.psi_texts.specs.declared.status.Status.TheVariants as status
 use Rattle.psi_walk.specs.Due.{Contents, told}
@@ -141,7 +141,7 @@ of_end known words before _ after done h = absurd (none_there h.0 h.1 h.2)
 of_talk : (known : Known) (words : List (List ℕ)) (before : Outside) (ys : List (List ℕ)) (deal : SenderDeal)
     → HasItems known words before 2 ys → HasSenderDeal known words before 3 deal → (slots : List (List Slot)) (why : Status) (after : Outside)
     → (why ≡ status.Done → SendAnswers known words before why after)
-    → IsAnswered known words false (talks (sender_dialogue deal ys) (λ taken. ends None [])) (listening words before) slots why after → SendAnswers known words before why after
+    → IsAnswered known words false (talks (sender_dialogue deal ys) (λ taken. holds (ends None []))) (listening words before) slots why after → SendAnswers known words before why after
 of_talk known words before ys deal y_file s_file slots why after done (inl h) = of_session known words before ys deal y_file s_file why after h.0
 of_talk known words before ys deal y_file s_file slots why after done (inr h) = of_end known words before why after done h.3.0
 

@@ -18,7 +18,7 @@ use Rattle.psi_words.specs.Words.{word_at}
 use Rattle.psi_base.specs.Outside.{Link, link_to}
 use Rattle.psi_base.specs.declared.opening.Side.TheVariants.{Connect}
 use Rattle.psi_walk.specs.Placing.{placing_of}
-use Rattle.psi_walk.specs.Tree.{Effect, says, puts, Tree, places, opens, talks, ends}
+use Rattle.psi_walk.specs.Tree.{Effect, says, puts, Tree, places, opens, talks, holds, ends}
 
 -- the tags of a list, of which so many are left in so many blocks: the tags of each come behind the ten bytes that its
 -- frame begins with
@@ -72,7 +72,8 @@ sender_link words = link_to Connect (word_at words 1)
 abbrev pub receive_rest : List (List ℕ) → List (List ℕ) → ReceiverDeal → List Slot → Tree
 receive_rest words xs deal slots =
     opens (sender_link words)
-    (talks (receiver_dialogue deal (placed_of xs slots)) (λ taken. ends None (shows_and_keeps xs deal slots taken)))
+    (talks (receiver_dialogue deal (placed_of xs slots))
+    (λ taken. holds (ends None (shows_and_keeps xs deal slots taken))))
 
 -- the items, the deal, the placement, the link, the session, the text and the record
 abbrev pub receive_tree : List (List ℕ) → Tree

@@ -36,7 +36,7 @@ pub second_unplaced : (known : Known) (words : List (List ℕ)) (receiver : Rece
 second_unplaced known words receiver sender xs slots others before (status.NoPlacement place items touched) first second =
     places_on known words 1 (placing_of receiver xs) (λ chosen. twin_second receiver sender xs chosen others) before slots (stopped (status.NoPlacement place items touched) before) first
     (places_out known words 2 (placing_of receiver others) (λ chosen. twin_rest receiver sender xs slots others chosen) before (status.NoPlacement place items touched) second)
-second_unplaced known words receiver sender xs slots others before status.NoMemory first second = starves known words (twin_first receiver sender xs others) before
+second_unplaced known words receiver sender xs slots others before status.NoMemory first second = starves known words (twin_first receiver sender xs others) before tt
 second_unplaced known words receiver sender xs slots others before _ first second = absurd second
 
 -- both sets have their slots, and the rest ended so

@@ -12,7 +12,7 @@ use Rattle.psi_frames.specs.declared.turns.EndFault.{EndFault}
 use Rattle.psi_frames.specs.declared.turns.EndFault.TheVariants as peer
 use Rattle.psi_frames.specs.Dialogue.{Dialogue, Talks, talked}
 use Rattle.psi_walk.specs.Promises.{IsAnswered, IsHungry, IsNotTalked, IsOfEnd, IsSilent, IsUnopened, IsUnread}
-use Rattle.psi_walk.specs.Tree.{Effect, says, puts, Placing, Tree, reads, refuses, places, opens, talks, ends, End, stopped, carried_by}
+use Rattle.psi_walk.specs.Tree.{Effect, says, puts, Placing, Tree, reads, refuses, places, opens, talks, holds, ends, End, stopped, carried_by}
 use Rattle.psi_walk.specs.Walk.{AtCall, AtPlace, AtRefusal, AtEnd, IsNotPlaced, starved, cut, passed, hungry, crowded, placed, given_up, refused, gave_up, all_done, IsPicked, IsVerdict, Does, Follows, Gives, read_status, write_status, print_status, open_status, talk_status}
 use Rattle.psi_texts.specs.declared.status.Status.{Status}
 use Rattle.psi_texts.specs.declared.status.Status.TheVariants as status
@@ -223,14 +223,15 @@ follows_answers known words taken (opens link next) before end h =
     (λ why after was. inl (unopened known link before why after was, open_silent known link before why after was, refl))
     (λ x after was more. inr (follows_answers known words taken next (linked before link) end (subst (λ (o : Outside). Follows known words taken next o end) was more))) h
 follows_answers known words taken (talks d next) before end h =
-    call_answer taken (Talks known d before) talk_status before end (λ bytes after. Follows known words true (next bytes) after end)
+    call_answer taken (Talks known d before) talk_status before end (λ bytes after. Follows known words taken (next bytes) after end)
     (IsAnswered known words taken (talks d next) before) (inl (inl refl, refl)) (λ why after was. inl (untalked known d before why after was, refl))
     (λ bytes after was more. inr (
       bytes,
       was.0,
       was.1,
-      follows_answers known words true (next bytes) (talked before (d.owes bytes) bytes) end (subst (λ (o : Outside). Follows known words true (next bytes) o end) was.2 more),
+      follows_answers known words taken (next bytes) (talked before (d.owes bytes) bytes) end (subst (λ (o : Outside). Follows known words taken (next bytes) o end) was.2 more),
     )) h
+follows_answers known words taken (holds next) before end h = follows_answers known words true next before end h
 follows_answers known words taken (ends wire effects) before end h =
     let does = does_answer known words taken wire effects before end h in
     (does.0, does.1, does.2, does_carry known words taken wire effects before end h)

@@ -4,7 +4,7 @@ use Rattle.psi_spec.specs.Placement.{Slot}
 use Rattle.psi_base.specs.Outside.{Known, Outside, linked}
 use Rattle.psi_frames.specs.Dialogue.{talked}
 use Rattle.psi_walk.specs.Promises.{IsAnswered}
-use Rattle.psi_walk.specs.Tree.{Placing, Tree, reads, refuses, places, opens, talks, ends, End, carried_by, carrying, with_slots}
+use Rattle.psi_walk.specs.Tree.{Placing, Tree, reads, refuses, places, opens, talks, holds, ends, End, carried_by, carrying, with_slots}
 use Rattle.psi_walk.specs.Walk.{Follows, IsVerdict, Places, Runs}
 use Rattle.psi_texts.specs.declared.status.Status.{Status}
 use Rattle.psi_texts.specs.declared.status.Status.TheVariants as status
@@ -28,7 +28,9 @@ none_is_refused known words taken (opens link next) before carried word items to
     none_is_refused known words taken next (linked before link) carried word items touched after p h
 none_is_refused known words taken (talks d next) before carried word items touched after p (inl h) = h.0
 none_is_refused known words taken (talks d next) before carried word items touched after p (inr h) =
-    none_is_refused known words true (next h.0) (talked before (d.owes h.0) h.0) carried word items touched after (p h.0) h.3
+    none_is_refused known words taken (next h.0) (talked before (d.owes h.0) h.0) carried word items touched after (p h.0) h.3
+none_is_refused known words taken (holds next) before carried word items touched after p h =
+    none_is_refused known words true next before carried word items touched after p h
 none_is_refused known words taken (ends wire effects) before carried word items touched after p h = h.0.3
 
 pub carries_all : (why : Status) (slots : List Slot) (rest : List (List Slot)) → ((word : ℕ) (items : List ℕ) (touched : ℕ) → why ≡ status.NoPlacement word items touched → ⊥)

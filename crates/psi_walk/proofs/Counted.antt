@@ -12,7 +12,7 @@ use Rattle.psi_frames.specs.declared.turns.EndFault.{EndFault}
 use Rattle.psi_frames.specs.declared.turns.EndFault.TheVariants as peer
 use Rattle.psi_frames.specs.Dialogue.{Dialogue, Talks, talked}
 use Rattle.psi_walk.specs.Promises.{Counts, counts_of, IsCounted}
-use Rattle.psi_walk.specs.Tree.{Effect, says, puts, Placing, Tree, reads, refuses, places, opens, talks, ends, End, stopped}
+use Rattle.psi_walk.specs.Tree.{Effect, says, puts, Placing, Tree, reads, refuses, places, opens, talks, holds, ends, End, stopped}
 use Rattle.psi_walk.specs.Walk.{AtCall, AtPlace, AtRefusal, AtEnd, starved, cut, passed, hungry, crowded, placed, given_up, refused, gave_up, all_done, IsVerdict, Does, Follows, Gives, read_status, write_status, print_status, open_status, talk_status}
 use Rattle.psi_texts.specs.declared.status.Status.{Status}
 use Rattle.psi_texts.specs.declared.status.Status.TheVariants as status
@@ -250,8 +250,9 @@ follows_counted known words taken (opens link next) before end h =
     (λ x after e. record { counts = ap counts_of e; files = ap (λ (o : Outside). o.files) e; steady = ap (λ (o : Outside). o.steady) e })
     (λ x after later. follows_counted known words taken next after end later) h
 follows_counted known words taken (talks d next) before end h =
-    call_counted words taken (Talks known d before) talk_status before end (λ bytes after. Follows known words true (next bytes) after end) (cut_talk known words d before)
+    call_counted words taken (Talks known d before) talk_status before end (λ bytes after. Follows known words taken (next bytes) after end) (cut_talk known words d before)
     (λ x after e. record { counts = ap counts_of e.2; files = ap (λ (o : Outside). o.files) e.2; steady = ap (λ (o : Outside). o.steady) e.2 })
-    (λ x after later. follows_counted known words true (next x) after end later) h
+    (λ x after later. follows_counted known words taken (next x) after end later) h
+follows_counted known words taken (holds next) before end h = follows_counted known words true next before end h
 follows_counted known words taken (ends wire effects) before end h =
     effect_counted words before end.status end.left (does_counted known words taken wire effects before end h)

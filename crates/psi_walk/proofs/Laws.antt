@@ -7,7 +7,7 @@ use Rattle.psi_base.specs.Outside.{Known, Outside, Rose, linked}
 use Rattle.psi_frames.specs.Dialogue.{talked}
 use Rattle.psi_walk.specs.Due.{Contents, Due, lacks, long, refusal, unplaced, reached, untold, due, told, lacking, without}
 use Rattle.psi_walk.specs.Promises.{Completes, IsAnswered, IsCalm, IsCounted, IsDue, IsStoppedAt, IsStoppedBefore, IsWhatIsDue, OnDue, StandsAt, StandsBy}
-use Rattle.psi_walk.specs.Tree.{Effect, says, puts, Tree, reads, refuses, places, opens, talks, ends, End}
+use Rattle.psi_walk.specs.Tree.{Effect, says, puts, Tree, reads, refuses, places, opens, talks, holds, ends, End}
 use Rattle.psi_walk.specs.Walk.{IsVerdict, Runs}
 use Rattle.psi_texts.specs.declared.status.Status.{Status}
 use Rattle.psi_texts.specs.declared.status.Status.TheVariants as status
@@ -37,7 +37,8 @@ never_answered known words taken (places word set next) before slots at after (i
 never_answered known words taken (opens link next) before slots at after (inl h) = h.0
 never_answered known words taken (opens link next) before slots at after (inr h) = never_answered known words taken next (linked before link) slots at after h
 never_answered known words taken (talks d next) before slots at after (inl h) = h.0
-never_answered known words taken (talks d next) before slots at after (inr h) = never_answered known words true (next h.0) (talked before (d.owes h.0) h.0) slots at after h.3
+never_answered known words taken (talks d next) before slots at after (inr h) = never_answered known words taken (next h.0) (talked before (d.owes h.0) h.0) slots at after h.3
+never_answered known words taken (holds next) before slots at after h = never_answered known words true next before slots at after h
 never_answered known words taken (ends wire effects) before slots at after h = h.0.3
 
 pub runs_in_words : (known : Known) (words : List (List ℕ)) (tree : Tree) (before : Outside) (end : End) (at : ℕ) → Runs known words tree before end

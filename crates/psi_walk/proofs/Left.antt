@@ -13,7 +13,7 @@ use Rattle.psi_frames.specs.declared.turns.EndFault.TheVariants as peer
 use Rattle.psi_frames.specs.Dialogue.{Talks, talked}
 use Rattle.psi_walk.specs.Due.{after_effects}
 use Rattle.psi_walk.specs.Promises.{Leaves}
-use Rattle.psi_walk.specs.Tree.{Effect, says, puts, Placing, Tree, reads, refuses, places, opens, talks, ends, End, carried_by}
+use Rattle.psi_walk.specs.Tree.{Effect, says, puts, Placing, Tree, reads, refuses, places, opens, talks, holds, ends, End, carried_by}
 use Rattle.psi_walk.specs.Walk.{AtCall, AtPlace, AtRefusal, AtEnd, starved, cut, passed, hungry, crowded, placed, given_up, refused, gave_up, all_done, IsVerdict, Does, Follows, Gives, read_status, write_status, print_status, open_status, talk_status}
 use Rattle.psi_texts.specs.declared.status.Status.{Status}
 use Rattle.psi_texts.specs.declared.status.Status.TheVariants as status
@@ -111,11 +111,12 @@ follows_leaves known words taken (opens link next) before end done h =
     call_left taken (Opens known before link) open_status before end (λ _ after. Follows known words taken next after end) _ done open_not_done
     (λ x after was more. follows_leaves known words taken next (linked before link) end done (subst (λ (o : Outside). Follows known words taken next o end) was more)) h
 follows_leaves known words taken (talks d next) before end done h =
-    call_left taken (Talks known d before) talk_status before end (λ bytes after. Follows known words true (next bytes) after end) _ done talk_not_done
+    call_left taken (Talks known d before) talk_status before end (λ bytes after. Follows known words taken (next bytes) after end) _ done talk_not_done
     (λ bytes after was more. (
       bytes,
       was.0,
       was.1,
-      follows_leaves known words true (next bytes) (talked before (d.owes bytes) bytes) end done (subst (λ (o : Outside). Follows known words true (next bytes) o end) was.2 more),
+      follows_leaves known words taken (next bytes) (talked before (d.owes bytes) bytes) end done (subst (λ (o : Outside). Follows known words taken (next bytes) o end) was.2 more),
     )) h
+follows_leaves known words taken (holds next) before end done h = follows_leaves known words true next before end done h
 follows_leaves known words taken (ends wire effects) before end done h = does_left known words taken wire effects before end done h

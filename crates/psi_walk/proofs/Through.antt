@@ -15,7 +15,7 @@ use Rattle.psi_frames.specs.declared.turns.EndFault.TheVariants as peer
 use Rattle.psi_frames.specs.Dialogue.{Dialogue, ReadSo, Reading, Talks, good, bad, short, talked}
 use Rattle.psi_walk.specs.Due.{Contents, told}
 use Rattle.psi_walk.specs.Promises.{HasBytes, IsCalm, IsDone, IsReady, ComesThrough}
-use Rattle.psi_walk.specs.Tree.{Effect, says, puts, Placing, Tree, reads, refuses, places, opens, talks, ends, End, stopped}
+use Rattle.psi_walk.specs.Tree.{Effect, says, puts, Placing, Tree, reads, refuses, places, opens, talks, holds, ends, End, stopped}
 use Rattle.psi_walk.specs.Walk.{AtCall, AtPlace, AtEnd, starved, cut, passed, hungry, crowded, placed, gave_up, all_done, IsPicked, Does, Follows, Gives, read_status, write_status, print_status, open_status, talk_status}
 use Rattle.psi_texts.specs.declared.status.Status.{Status}
 use Rattle.psi_texts.specs.declared.status.Status.TheVariants as status
@@ -192,12 +192,13 @@ runs_through known words taken (opens link next) before end h = λ ready calm.
     runs_through known words taken next (linked before link) end (subst (λ (o : Outside). Follows known words taken next o end) was more) ready
     (calm_after before (linked before link) end.left (refl, refl, refl, refl) calm)) h
 runs_through known words taken (talks d next) before end h = λ ready calm.
-    call_done taken (Talks known d before) talk_status before end (λ bytes after. Follows known words true (next bytes) after end) calm
+    call_done taken (Talks known d before) talk_status before end (λ bytes after. Follows known words taken (next bytes) after end) calm
     (λ why after still cut_off. talk_done known d ready.0 ready.1 before why after ready.2 ready.3 still cut_off)
     (λ bytes after was more.
     let same : ready.1 ≡ bytes = same_good ready.1 bytes (sym ready.3 ∙ reads_all d before.incoming ready.0 bytes (good bytes) ready.2 was.1) in
     let mid = talked before (d.owes bytes) bytes in
-    runs_through known words true (next bytes) mid end (subst (λ (o : Outside). Follows known words true (next bytes) o end) was.2 more)
+    runs_through known words taken (next bytes) mid end (subst (λ (o : Outside). Follows known words taken (next bytes) o end) was.2 more)
     (subst (λ (b : List ℕ). IsReady (told before.files words) (talked before (d.owes b) b) (next b)) same ready.4)
     (calm_after before mid end.left (refl, refl, refl, refl) calm)) h
+runs_through known words taken (holds next) before end h = runs_through known words true next before end h
 runs_through known words taken (ends wire effects) before end h = λ ready calm. does_done known words taken wire effects before end calm h

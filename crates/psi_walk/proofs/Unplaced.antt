@@ -8,7 +8,7 @@ use Rattle.psi_frames.specs.Dialogue.{talked}
 use Rattle.psi_deal.specs.declared.old_files.OldDeal.{OldDeal}
 use Rattle.psi_walk.specs.Files.{items_in, old_deal_in, reads_items, reads_old, reads_sender, sender_in}
 use Rattle.psi_walk.specs.Promises.{IsAnswered}
-use Rattle.psi_walk.specs.Tree.{Effect, Tree, reads, refuses, places, opens, talks, ends, decides}
+use Rattle.psi_walk.specs.Tree.{Effect, Tree, reads, refuses, places, opens, talks, holds, ends, decides}
 use Rattle.psi_texts.specs.declared.status.Status.{Status}
 
 -- the tree places no set, whatever is read and taken
@@ -18,6 +18,7 @@ PlacesNone (refuses verdict) = Unit {0}
 PlacesNone (places word set next) = ⊥
 PlacesNone (opens link next) = PlacesNone next
 PlacesNone (talks d next) = (bytes : List ℕ) → PlacesNone (next bytes)
+PlacesNone (holds next) = PlacesNone next
 PlacesNone (ends wire effects) = Unit {0}
 
 pub ends_place_none : (wire : Option (List ℕ)) (effects : List Effect) → PlacesNone (ends wire effects)
@@ -52,5 +53,6 @@ none_is_placed known words taken (opens link next) before slots why after p (inl
 none_is_placed known words taken (opens link next) before slots why after p (inr h) = none_is_placed known words taken next (linked before link) slots why after p h
 none_is_placed known words taken (talks d next) before slots why after p (inl h) = h.1
 none_is_placed known words taken (talks d next) before slots why after p (inr h) =
-    none_is_placed known words true (next h.0) (talked before (d.owes h.0) h.0) slots why after (p h.0) h.3
+    none_is_placed known words taken (next h.0) (talked before (d.owes h.0) h.0) slots why after (p h.0) h.3
+none_is_placed known words taken (holds next) before slots why after p h = none_is_placed known words true next before slots why after p h
 none_is_placed known words taken (ends wire effects) before slots why after p h = h.3

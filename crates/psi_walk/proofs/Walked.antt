@@ -17,7 +17,7 @@ use Rattle.psi_frames.specs.declared.turns.EndFault.TheVariants as peer
 use Rattle.psi_frames.specs.Dialogue.{Dialogue, Reading, ReadSo, Talks, good, bad, short, talked}
 use Rattle.psi_walk.specs.Due.{Contents, Due, lacks, long, refusal, unplaced, reached, IsTold, by_told, due, told, lacking, without, judged, given, heard}
 use Rattle.psi_walk.specs.Promises.{HasSoMany, Untouched, Stands}
-use Rattle.psi_walk.specs.Tree.{Effect, Placing, slots_for, Tree, reads, refuses, places, opens, talks, ends, End, stopped}
+use Rattle.psi_walk.specs.Tree.{Effect, Placing, slots_for, Tree, reads, refuses, places, opens, talks, holds, ends, End, stopped}
 use Rattle.psi_walk.specs.Walk.{AtCall, AtPlace, AtRefusal, starved, cut, passed, hungry, crowded, placed, given_up, refused, IsVerdict, Follows, Gives, read_status, open_status, talk_status}
 use Rattle.psi_texts.specs.declared.status.Status.{Status}
 use Rattle.psi_texts.specs.declared.status.Status.TheVariants as status
@@ -288,19 +288,19 @@ follows_met known words taken (opens link next) before end is h =
     (follows_met known words taken next mid end is (subst (λ (o : Outside). Follows known words taken next o end) was more)))
     h
 follows_met known words taken (talks d next) before end is h =
-    by_incoming before.incoming refl is (λ bytes later more. follows_met known words true (next bytes) (talked before (d.owes bytes) bytes) end later more)
+    by_incoming before.incoming refl is (λ bytes later more. follows_met known words taken (next bytes) (talked before (d.owes bytes) bytes) end later more)
   where
     rest : Option Contents → List ℕ → Due
     rest c bytes = due c (talked before (d.owes bytes) bytes) (next bytes)
 
     by_incoming : (o : Option (List ℕ)) → before.incoming ≡ o → IsTold (by_told o (λ incoming. heard (d.reads_as incoming) (rest (told before.files words))))
-        → ((bytes : List ℕ) → IsTold (rest (told before.files words) bytes) → Follows known words true (next bytes) (talked before (d.owes bytes) bytes) end
+        → ((bytes : List ℕ) → IsTold (rest (told before.files words) bytes) → Follows known words taken (next bytes) (talked before (d.owes bytes) bytes) end
         → Met words (λ c. rest c bytes) (told before.files words) (talked before (d.owes bytes) bytes) end.status end.left)
         → Met words (λ c. due c before (talks d next)) (told before.files words) before end.status end.left
     by_incoming None e t go_on = absurd t
     by_incoming (Some incoming) e t go_on =
         call_met taken (Talks known d before) talk_status words (λ c. due c before (talks d next)) (told before.files words) before end
-        (λ bytes after. Follows known words true (next bytes) after end)
+        (λ bytes after. Follows known words taken (next bytes) after end)
         (λ why after cut_off. talk_cut known words d rest (told before.files words) incoming before why after e cut_off)
         (λ bytes after was more.
         let mid = talked before (d.owes bytes) bytes in
@@ -308,7 +308,8 @@ follows_met known words taken (talks d next) before end is h =
         let later : IsTold (rest (told before.files words) bytes) = subst IsTold (ap (λ (x : Reading). heard x (rest (told before.files words))) so) t in
         carry words (λ c. due c before (talks d next)) (λ c. rest c bytes) (told before.files words) before mid end.status end.left
         (heard_leads d rest (told before.files words) before.incoming incoming bytes e so) refl
-        (go_on bytes later (subst (λ (o : Outside). Follows known words true (next bytes) o end) was.2 more)))
+        (go_on bytes later (subst (λ (o : Outside). Follows known words taken (next bytes) o end) was.2 more)))
         h
+follows_met known words taken (holds next) before end is h = follows_met known words true next before end is h
 follows_met known words taken (ends wire effects) before end is h =
     late before effects refl refl (does_stands known words taken wire effects before end h)

@@ -6,7 +6,7 @@ use Rattle.psi_words.specs.Words.{word_at}
 use Rattle.psi_base.specs.Outside.{Known, Outside, Writes, PrintsAll, Opens}
 use Rattle.psi_frames.specs.Dialogue.{Talks}
 use Rattle.psi_walk.specs.Files.{items_in, old_deal_in, reads_items, reads_old, reads_receiver, reads_record, reads_sender, receiver_in, record_in, sender_in}
-use Rattle.psi_walk.specs.Tree.{Effect, says, puts, Placing, Tree, reads, refuses, places, opens, talks, ends, decides, End, stopped}
+use Rattle.psi_walk.specs.Tree.{Effect, says, puts, Placing, Tree, reads, refuses, places, opens, talks, holds, ends, decides, End, stopped}
 use Rattle.psi_walk.specs.Walk.{AtCall, AtPlace, AtRefusal, AtEnd, starved, cut, passed, hungry, crowded, placed, given_up, refused, gave_up, all_done, Does, Follows, Gives, read_status, write_status, print_status, open_status, talk_status}
 use Rattle.psi_texts.specs.declared.status.Status.{Status}
 use Rattle.psi_texts.specs.declared.status.Status.TheVariants as status
@@ -29,6 +29,7 @@ MayBeWired may (refuses verdict) = Unit {0}
 MayBeWired may (places word set next) = (slots : List Slot) → MayBeWired may (next slots)
 MayBeWired may (opens link next) = MayBeWired may next
 MayBeWired may (talks d next) = (bytes : List ℕ) → MayBeWired may (next bytes)
+MayBeWired may (holds next) = MayBeWired may next
 MayBeWired may (ends wire effects) = (may ≡ true) ⊎ (wire ≡ None)
 
 call_wired : {A E : Type 0} (may taken : Bool) (Calls : Result A E → Outside → Type 0) (status_of : E → Status) (before : Outside) (end : End)
@@ -82,8 +83,9 @@ follows_wired may known words taken (opens link next) before end m h =
     call_wired may taken (Opens known before link) open_status before end (λ _ after. Follows known words taken next after end)
     (λ x after more. follows_wired may known words taken next after end m more) h
 follows_wired may known words taken (talks d next) before end m h =
-    call_wired may taken (Talks known d before) talk_status before end (λ bytes after. Follows known words true (next bytes) after end)
-    (λ bytes after more. follows_wired may known words true (next bytes) after end (m bytes) more) h
+    call_wired may taken (Talks known d before) talk_status before end (λ bytes after. Follows known words taken (next bytes) after end)
+    (λ bytes after more. follows_wired may known words taken (next bytes) after end (m bytes) more) h
+follows_wired may known words taken (holds next) before end m h = follows_wired may known words true next before end m h
 follows_wired may known words taken (ends wire effects) before end m h = does_wired may known words taken wire effects before end m h
 
 -- ---- steps that read and judge a file
@@ -123,6 +125,7 @@ any_wired (refuses verdict) = tt
 any_wired (places word set next) = λ slots. any_wired (next slots)
 any_wired (opens link next) = any_wired next
 any_wired (talks d next) = λ bytes. any_wired (next bytes)
+any_wired (holds next) = any_wired next
 any_wired (ends wire effects) = inl refl
 
 -- only a run that is done has a digest

@@ -4,7 +4,7 @@ use Rattle.psi_spec.specs.Placement.{Slot}
 use Rattle.psi_words.specs.Words.{word_at}
 use Rattle.psi_base.specs.Outside.{Outside, Files, linked, printed_too, written, partly_written}
 use Rattle.psi_frames.specs.Dialogue.{Reading, good, bad, short, talked}
-use Rattle.psi_walk.specs.Tree.{Effect, says, puts, Placing, slots_for, Tree, reads, refuses, places, opens, talks, ends}
+use Rattle.psi_walk.specs.Tree.{Effect, says, puts, Placing, slots_for, Tree, reads, refuses, places, opens, talks, holds, ends}
 use Rattle.psi_texts.specs.declared.status.Status.{Status}
 use Rattle.psi_texts.specs.declared.status.Status.TheVariants.{BadFrame, PeerEnded}
 
@@ -65,6 +65,7 @@ due contents before (opens link next) = due contents (linked before link) next
 due contents before (talks d next) =
     by_told before.incoming (λ incoming. heard (d.reads_as incoming)
     (λ taken. due contents (talked before (d.owes taken) taken) (next taken)))
+due contents before (holds next) = due contents before next
 due contents before (ends wire effects) = reached before effects
 
 -- all that decides what is due is told

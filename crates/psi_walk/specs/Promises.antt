@@ -8,7 +8,7 @@ use Rattle.psi_base.specs.Outside.{Known, Link, Outside, HasFile, LacksFile, Lin
 use Rattle.psi_frames.specs.declared.turns.EndFault.TheVariants as peer
 use Rattle.psi_frames.specs.Dialogue.{Dialogue, CutOff, HeardBad, HeardShort, ReadSo, Talks, WereTaken, good, talked}
 use Rattle.psi_walk.specs.Due.{Contents, Due, lacks, long, refusal, unplaced, reached, untold, IsTold, due, told, without, after_effects, after_part}
-use Rattle.psi_walk.specs.Tree.{Effect, says, puts, Placing, Tree, reads, refuses, places, opens, talks, ends, End, carried_by, carrying}
+use Rattle.psi_walk.specs.Tree.{Effect, says, puts, Placing, Tree, reads, refuses, places, opens, talks, holds, ends, End, carried_by, carrying}
 use Rattle.psi_walk.specs.Walk.{IsNotPlaced, IsPicked, IsVerdict}
 use Rattle.psi_texts.specs.declared.status.Status.{Status}
 use Rattle.psi_texts.specs.declared.status.Status.TheVariants.{Done, BadWords, NoPlacement, BadFrame, PeerEnded, FileFault, LinkFault, PrintFault, TooLong, NoMemory}
@@ -142,7 +142,9 @@ IsAnswered known words taken (opens link next) before carried why after =
 IsAnswered known words taken (talks d next) before carried why after =
     (IsNotTalked known d before why after × (carried ≡ []))
     ⊎ ((bytes : List ℕ) × WereTaken known before.incoming bytes × ReadSo d before.incoming bytes (good bytes)
-    × IsAnswered known words true (next bytes) (talked before (d.owes bytes) bytes) carried why after)
+    × IsAnswered known words taken (next bytes) (talked before (d.owes bytes) bytes) carried why after)
+IsAnswered known words taken (holds next) before carried why after =
+    IsAnswered known words true next before carried why after
 IsAnswered known words taken (ends wire effects) before carried why after =
     IsOfEnd known words taken why effects × IsSilent before after × IsHungry taken before why after × (carried ≡ [])
 
@@ -226,6 +228,7 @@ IsReady contents before (opens link next) = IsReady contents (linked before link
 IsReady contents before (talks d next) =
     (incoming taken : List ℕ) × (before.incoming ≡ Some incoming) × (d.reads_as incoming ≡ good taken)
     × IsReady contents (talked before (d.owes taken) taken) (next taken)
+IsReady contents before (holds next) = IsReady contents before next
 IsReady contents before (ends wire effects) = Unit {0}
 
 -- from valid files, sets that have placements and a well-formed peer the run is done in a calm world, or memory was
@@ -294,5 +297,6 @@ Leaves known words (opens link next) before end = Leaves known words next (linke
 Leaves known words (talks d next) before end =
     (taken : List ℕ) × WereTaken known before.incoming taken × ReadSo d before.incoming taken (good taken)
     × Leaves known words (next taken) (talked before (d.owes taken) taken) end
+Leaves known words (holds next) before end = Leaves known words next before end
 Leaves known words (ends wire effects) before end =
     end ≡ record { status = Done; placed = []; wire = wire; left = after_effects words before effects }

@@ -33,8 +33,10 @@ pub data Tree : Type 0 where
   places : ℕ → Placing → (List Slot → Tree) → Tree
   -- opens the link, from this side and at this address
   opens : Link → Tree → Tree
-  -- runs this end of a session over the link: all memory is taken before, so that none is wanting after it
+  -- runs this end of a session over the link
   talks : Dialogue → (List ℕ → Tree) → Tree
+  -- all memory is taken: from here on none is wanting but where the outside counts a refusal
+  holds : Tree → Tree
   -- does these in order, and is done, with the digest of the session that was run, if one was
   ends : Option (List ℕ) → List Effect → Tree
 

@@ -12,7 +12,7 @@ use Rattle.psi_base.specs.declared.faults.ReadFault.TheVariants as read
 use Rattle.psi_frames.specs.declared.turns.EndFault.{EndFault}
 use Rattle.psi_frames.specs.declared.turns.EndFault.TheVariants as peer
 use Rattle.psi_frames.specs.Dialogue.{Dialogue, Talks}
-use Rattle.psi_walk.specs.Tree.{Effect, says, puts, Placing, slots_for, Tree, reads, refuses, places, opens, talks, ends, End, stopped, with_slots}
+use Rattle.psi_walk.specs.Tree.{Effect, says, puts, Placing, slots_for, Tree, reads, refuses, places, opens, talks, holds, ends, End, stopped, with_slots}
 use Rattle.psi_texts.specs.declared.status.Status.{Status}
 use Rattle.psi_texts.specs.declared.status.Status.TheVariants as status
 
@@ -103,7 +103,7 @@ Does known words taken wire (puts word bytes ∷ rest) before end =
     AtCall taken (Writes known before (word_at words word) bytes) (write_status word) before end
     (λ _ after. Does known words taken wire rest after end)
 
--- a run of a command with these words, from this outside on; once a session was run, all memory is taken
+-- a run of a command with these words, from this outside on; all memory is taken where a step says so
 unfoldable pub Follows : Known → List (List ℕ) → Bool → Tree → Outside → End → Type 0
 Follows known words taken (reads word limit next) before end =
     AtCall taken (Gives known before (word_at words word) limit) (read_status word) before end
@@ -115,7 +115,8 @@ Follows known words taken (opens link next) before end =
     AtCall taken (Opens known before link) open_status before end (λ _ after. Follows known words taken next after end)
 Follows known words taken (talks dialogue next) before end =
     AtCall taken (Talks known dialogue before) talk_status before end
-    (λ bytes after. Follows known words true (next bytes) after end)
+    (λ bytes after. Follows known words taken (next bytes) after end)
+Follows known words taken (holds next) before end = Follows known words true next before end
 Follows known words taken (ends wire effects) before end = Does known words taken wire effects before end
 
 -- the same of a run that has taken no memory for good
@@ -144,13 +145,13 @@ StepsOpen known words link before (Ok _) after =
 StepsOpen known words link before (Err why) after =
     (next : Tree) → Runs known words (opens link next) before (stopped why after)
 
--- what a step may answer and leave that runs a session: with all memory taken the run goes on from the bytes that were
--- taken, of which a fact is known
+-- what a step may answer and leave that runs a session: the run goes on from the bytes that were taken, of which a fact
+-- is known
 abbrev pub StepsTalk : Known → List (List ℕ) → Dialogue → (List ℕ → Type 0) → Outside → Result (Unit {0}) Status
     → Outside → Type 0
 StepsTalk known words d Told before (Ok _) after =
     (taken : List ℕ) × Told taken
-    × ((next : List ℕ → Tree) (end : End) → Follows known words true (next taken) after end
+    × ((next : List ℕ → Tree) (end : End) → Runs known words (next taken) after end
     → Runs known words (talks d next) before end)
 StepsTalk known words d Told before (Err why) after =
     (next : List ℕ → Tree) → Runs known words (talks d next) before (stopped why after)

@@ -29,6 +29,7 @@ pub fn read_bytes<W: World>(
     ensures steps { StepsRead W.known words.now word limit (W.outside world.old) (as_list result)
         (W.outside world.new) }
     ensures short { IfOk (as_list result) (λ bytes. length bytes ≤ limit) }
+    ensures unchanged { OnOk result (W.outside world.new ≡ W.outside world.old) }
 {
     match world.read_file(alloc, word_at(words, usize::from(word)), limit) {
         Ok(bytes) => Ok(bytes),

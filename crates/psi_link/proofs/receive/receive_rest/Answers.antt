@@ -6,7 +6,7 @@ use Rattle.psi_spec.specs.Meeting.{Placed, placed_of}
 use Rattle.psi_spec.proofs.Dealing.{length-placement}
 use Rattle.psi_receiver.specs.Laws.{receiver_dialogue}
 use Rattle.psi_link.specs.Receive.{receive_rest, shows_and_keeps}
-use Rattle.psi_walk.specs.Tree.{ends, stopped, talks}
+use Rattle.psi_walk.specs.Tree.{ends, holds, stopped, talks}
 use Rattle.psi_walk.specs.Walk.{Runs, status_of}
 use Rattle.psi_texts.specs.declared.status.Status.{Status}
 use Rattle.psi_texts.specs.declared.status.Status.TheVariants as status
@@ -23,7 +23,7 @@ returns-in_err-end g c =
     let tree = receive_rest words c.args.items.now c.args.deal.now c.args.placement.now in
     let failed = err_from_is_err_and c.from_residual.result c.from_residual.ensures.1 in
     let same : c.from_residual.result ≡ Err status.NoMemory = failed.1 ∙ ap Err (failed.2 ∙ c.in_err-end.ensures.fails) in
-    subst (λ (r : Result (Unit {0}) Status). Runs known words tree before (stopped (status_of r) before)) (sym same) (starves known words tree before)
+    subst (λ (r : Result (Unit {0}) Status). Runs known words tree before (stopped (status_of r) before)) (sym same) (starves known words tree before tt)
 
 pub show_and_keep-requires : goal.show_and_keep-requires
 show_and_keep-requires g c =
@@ -45,6 +45,6 @@ returns g c =
     let opened = g.W.World.outside c.open_link.new.world in
     let talked = g.W.World.outside c.converse.new.world in
     let last = stopped (status_of c.show_and_keep.result) (g.W.World.outside c.show_and_keep.new.world) in
-    c.in_ok-open_link.ensures.steps (talks (receiver_dialogue deal (placed_of xs slots)) (λ taken. ends None (shows_and_keeps xs deal slots taken))) last
+    c.in_ok-open_link.ensures.steps (talks (receiver_dialogue deal (placed_of xs slots)) (λ taken. holds (ends None (shows_and_keeps xs deal slots taken)))) last
     (session_on known words xs deal slots end.core.deal end.core.placed end.log new.core.shown new.log opened talked last c.requires.deal c.requires.placed
     c.in_ok-end.ensures.deal c.in_ok-end.ensures.placed c.in_ok-end.ensures.log (c.in_ok-converse.ensures.session words) c.show_and_keep.ensures)

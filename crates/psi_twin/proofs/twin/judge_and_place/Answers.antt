@@ -1,4 +1,4 @@
-use Rattle.std.proofs.Common.{◌≡◌, ◌∙◌, Err, Ok, ap, subst, sym}
+use Rattle.std.proofs.Common.{◌≡◌, ◌∙◌, Err, ap, subst, sym}
 use Rattle.std.specs.declared.result.Result.{Result}
 use Rattle.std.proofs.lemmas.Result.{err_from_is_err_and}
 use Rattle.psi_walk.specs.Tree.{Tree, end_of, stopped}
@@ -23,7 +23,7 @@ returns-in_err-other g c =
     let failed = err_from_is_err_and c.from_residual-in_err-other.result c.from_residual-in_err-other.ensures.1 in
     let same : c.from_residual-in_err-other.result ≡ Err why = failed.1 ∙ ap Err failed.2 in
     subst (λ (r : Result Outcome Status). Runs known words (twin_sets receiver sender xs others) before (end_of r before)) (sym same)
-    (settled (twins_in receiver sender xs others) (Ok c.in_ok-judge_twins.field-0) c.in_ok-judge_twins.ensures.settles known words before
+    (settled (twins_in receiver sender xs others) c.in_ok-judge_twins.field-0 c.in_ok-judge_twins.ensures.settles known words before
     (λ _. twin_first receiver sender xs others) (stopped why before)
     (second_unplaced known words receiver sender xs c.in_ok-placement.placement others before why c.in_ok-placement.ensures.places c.in_err-other.ensures.places))
 
@@ -45,7 +45,7 @@ returns g c =
     (rest_tree receiver sender xs slots others other_slots c.len.result c.in_ok-placement.first c.in_ok-other.second c.in_ok-placement.ensures.placed c.len.ensures.len
     c.in_ok-placement.ensures.words c.in_ok-other.ensures.words)
     c.write_files-rest.ensures in
-    settled (twins_in receiver sender xs others) (Ok c.in_ok-judge_twins.field-0) c.in_ok-judge_twins.ensures.settles known words before
+    settled (twins_in receiver sender xs others) c.in_ok-judge_twins.field-0 c.in_ok-judge_twins.ensures.settles known words before
     (λ _. twin_first receiver sender xs others) _
     (both_placed known words receiver sender xs slots others other_slots before after c.status.result due c.status.ensures c.in_ok-placement.ensures.places
     c.in_ok-other.ensures.places rest)

@@ -21,7 +21,7 @@ returns-in_err-files g c =
     let tree = ends None (files_of_words c.args.deals.now.0 c.args.deals.now.1 c.args.count c.args.first c.args.second) in
     let failed = err_from_is_err_and c.from_residual.result c.from_residual.ensures.1 in
     let same : c.from_residual.result ≡ Err status.NoMemory = failed.1 ∙ ap Err failed.2 in
-    subst (λ (r : Result (Unit {0}) Status). Runs known words tree before (stopped (status_of r) before)) (sym same) (starves known words tree before)
+    subst (λ (r : Result (Unit {0}) Status). Runs known words tree before (stopped (status_of r) before)) (sym same) (starves known words tree before tt)
 
 pub returns : goal.returns
 returns g c =

@@ -10,7 +10,7 @@ unfolding reads_items
 returns-in-Ok g c =
     then_judged g.W.World.known c.args.words.now c.args.word file_limit (items_in c.args.word)
     (g.W.World.outside c.args.world.now) (g.W.World.outside c.read_bytes.new.world) c.in-Ok.bytes.items c.judge_items.result
-    c.in-Ok.ensures.steps (rw c.deref.ensures.value at c.judge_items.ensures.are_bytes) (rw c.deref.ensures.value at c.judge_items.ensures.settles)
+    c.in-Ok.ensures.steps c.in-Ok.ensures.unchanged (rw c.deref.ensures.value at c.judge_items.ensures.are_bytes) (rw c.deref.ensures.value at c.judge_items.ensures.settles)
 
 pub returns-in-Err : goal.returns-in-Err
 unfolding reads_items

@@ -10,7 +10,7 @@ unfolding reads_receiver
 returns-in-Ok-clause-steps g c =
     then_judged g.W.World.known c.args.words.now c.args.word file_limit (receiver_in c.args.word)
     (g.W.World.outside c.args.world.now) (g.W.World.outside c.read_bytes.new.world) c.in-Ok.bytes.items c.judge_receiver.result
-    c.in-Ok.ensures.steps (rw c.deref.ensures.value at c.judge_receiver.ensures.are_bytes) (rw c.deref.ensures.value at c.judge_receiver.ensures.settles)
+    c.in-Ok.ensures.steps c.in-Ok.ensures.unchanged (rw c.deref.ensures.value at c.judge_receiver.ensures.are_bytes) (rw c.deref.ensures.value at c.judge_receiver.ensures.settles)
 
 pub returns-in-Err-clause-steps : goal.returns-in-Err-clause-steps
 unfolding reads_receiver

@@ -10,7 +10,7 @@ unfolding reads_sender
 returns-in-Ok-clause-steps g c =
     then_judged g.W.World.known c.args.words.now c.args.word file_limit (sender_in c.args.word)
     (g.W.World.outside c.args.world.now) (g.W.World.outside c.read_bytes.new.world) c.in-Ok.bytes.items c.judge_sender.result
-    c.in-Ok.ensures.steps (rw c.deref.ensures.value at c.judge_sender.ensures.are_bytes) (rw c.deref.ensures.value at c.judge_sender.ensures.settles)
+    c.in-Ok.ensures.steps c.in-Ok.ensures.unchanged (rw c.deref.ensures.value at c.judge_sender.ensures.are_bytes) (rw c.deref.ensures.value at c.judge_sender.ensures.settles)
 
 pub returns-in-Err-clause-steps : goal.returns-in-Err-clause-steps
 unfolding reads_sender
