@@ -12,7 +12,7 @@ use psi_deal::{ReceiverDeal, deal};
 use psi_items::digest;
 use psi_oprf::code;
 use psi_receiver::receiver_stream;
-use psi_top::{Status, run};
+use psi_top::{Placements, Status, run};
 use std::alloc::Global;
 use std::process::Abort;
 use std::test::Fail;
@@ -109,14 +109,22 @@ fn chosen_columns_stay(rt: HostRuntime) -> Result<(), Fail> {
     Ok(())
 }
 
+// The placements of two sets.
+fn both(placements: Placements) -> Option<(Placement, Placement)> {
+    match placements {
+        Placements::Two(first, second) => Some((first, second)),
+        _ => None,
+    }
+}
+
 #[test]
 fn the_second_list_has_the_stream_of_the_first(rt: HostRuntime) -> Result<(), Fail> {
     let mut world = dealt_world(&rt, b"a\nb\n", b"c\nd\n")?;
     let words = words_of(rt.alloc(), TWIN)?;
     let outcome = run(rt.alloc(), &words, &mut world);
     assert_eq!(rt; outcome.status, Status::Done);
-    assert_eq!(rt; outcome.placement.map(|placement| placement.len()), Some(2));
-    let second = outcome.second.expect(&rt, "a second placement");
+    let (first, second) = both(outcome.placements).expect(&rt, "two placements");
+    assert_eq!(rt; first.len(), 2);
     let (receiver, _) = deal(rt.alloc(), &[0; 32], 0, 16, 4)?;
     let rows = rows(2, receiver.stash());
     let columns = world.file("columns").unwrap_or(&[]);

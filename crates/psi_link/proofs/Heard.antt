@@ -1,5 +1,5 @@
 -- A session of the receiver that was done: what is printed and kept of it.
-use Rattle.std.proofs.Common.{◌≡◌, ℕ, Bool, false, true, List, [], ◌∷◌, ◌++◌, length, None, Some, Ok, Err, sym, ap, ap₂, ◌∙◌, subst}
+use Rattle.std.proofs.Common.{◌≡◌, ℕ, Bool, false, true, List, [], ◌∷◌, ◌++◌, length, None, Ok, Err, sym, ap, ap₂, ◌∙◌, subst}
 use Rattle.std.specs.declared.result.Result.{Result}
 use Rattle.psi_spec.specs.DealFiles.{sealed}
 use Rattle.psi_spec.specs.Deals.{ReceiverDeal, IsReceiverDeal}
@@ -16,6 +16,7 @@ use Rattle.psi_receiver.specs.Laws.{own_stream, receiver_dialogue}
 use Rattle.psi_receiver.specs.Receiving.{Received}
 use Rattle.psi_link.specs.Receive.{IsHeard, session_record, shown_text, shows_and_keeps}
 use Rattle.psi_walk.specs.Tree.{Effect, says, puts, Placing, Tree, places, talks, holds, ends, End, ended, stopped}
+use Rattle.psi_walk.specs.declared.outcome.Placements.TheVariants as placements
 use Rattle.psi_walk.specs.Walk.{Follows, Makes, Places, Runs, StepsTalk, status_of}
 use Rattle.psi_texts.specs.declared.status.Status.{Status}
 use Rattle.psi_texts.specs.declared.status.Status.TheVariants as status
@@ -101,7 +102,7 @@ kept known words bytes file before after (Err why) e h =
 -- a set that got slots, and what came after it
 pub then_placed : (known : Known) (words : List (List ℕ)) (word : ℕ) (set : Placing) (next : List Slot → Tree) (before after : Outside) (slots : List Slot) (why due : Status) → why ≡ due
     → PlacesNone (next slots) → Places word set (Ok slots) → Runs known words (next slots) before (stopped due after)
-    → Runs known words (places word set next) before (ended (record { status = why; placement = Some slots; second = None; wire = None }) after)
+    → Runs known words (places word set next) before (ended (record { status = why; placements = placements.One slots; wire = None }) after)
 then_placed known words word set next before after slots why due e none is rest =
-    subst (λ (s : Status). Runs known words (places word set next) before (ended (record { status = s; placement = Some slots; second = None; wire = None }) after)) (sym e)
+    subst (λ (s : Status). Runs known words (places word set next) before (ended (record { status = s; placements = placements.One slots; wire = None }) after)) (sym e)
     (places_last known words word set next before slots (stopped due after) none is rest)

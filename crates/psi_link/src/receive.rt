@@ -26,7 +26,7 @@ use psi_log::{Recorder, write_record};
 use psi_receiver::{LoggedReceiver, ReceiverCore, run_receiver};
 use psi_texts::Status;
 use psi_walk::{
-    Outcome, open_link, outcome_of, place_items, print_shown, read_items, read_receiver_deal,
+    Outcome, Placements, open_link, outcome_of, place_items, print_shown, read_items, read_receiver_deal,
     session_status, status, write_word,
 };
 use std::alloc::Global;
@@ -132,8 +132,7 @@ fn place_and_receive<W: World>(
     let rest = receive_rest(alloc, words, items, &digests, deal, &placement, world);
     Ok(Outcome {
         status: status(rest),
-        placement: Some(placement),
-        second: None,
+        placements: Placements::One(placement),
         wire: None,
     })
 }

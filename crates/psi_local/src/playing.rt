@@ -18,7 +18,7 @@ use psi_receiver::ReceiverCore;
 use psi_sender::SenderCore;
 use psi_session::exchange;
 use psi_texts::Status;
-use psi_walk::Outcome;
+use psi_walk::{Outcome, Placements};
 use std::alloc::Global;
 
 /// The most tags of a frame.
@@ -94,18 +94,16 @@ pub fn play<'a>(
 pub fn placed_outcome(placement: Placement, rest: Result<[u8; 32], Status>) -> Outcome
     ensures { (after : Outside) → ended result after ≡ carrying placement (closed rest after) }
 {
-    let placement = Some(placement);
+    let placements = Placements::One(placement);
     match rest {
         Ok(digest) => Outcome {
             status: Status::Done,
-            placement,
-            second: None,
+            placements,
             wire: Some(digest),
         },
         Err(status) => Outcome {
             status,
-            placement,
-            second: None,
+            placements,
             wire: None,
         },
     }

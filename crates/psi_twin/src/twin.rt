@@ -19,7 +19,7 @@ use psi_items::Items;
 use psi_receiver::row_words;
 use psi_texts::Status;
 use psi_walk::{
-    Outcome, outcome_of, place_items, read_items, read_receiver_deal, read_sender_deal, status,
+    Outcome, Placements, outcome_of, place_items, read_items, read_receiver_deal, read_sender_deal, status,
     write_word,
 };
 use std::alloc::Global;
@@ -101,8 +101,7 @@ fn judge_and_place<W: World>(
     let rest = write_files(alloc, words, deals, x.len(), first, second, world);
     Ok(Outcome {
         status: status(rest),
-        placement: Some(placement),
-        second: Some(other),
+        placements: Placements::Two(placement, other),
         wire: None,
     })
 }

@@ -7,6 +7,8 @@ use Rattle.psi_frames.specs.Dialogue.{Dialogue}
 use Rattle.psi_texts.specs.declared.status.Status.{Status}
 use Rattle.psi_texts.specs.declared.status.Status.TheVariants.{Done, NoPlacement}
 use Rattle.psi_walk.specs.declared.outcome.Outcome.{Outcome}
+use Rattle.psi_walk.specs.declared.outcome.Placements.{Placements}
+use Rattle.psi_walk.specs.declared.outcome.Placements.TheVariants as placements
 
 -- what is done once nothing is refused any more: a text is printed, or the file of a word is written
 pub data Effect : Type 0 where
@@ -69,21 +71,17 @@ carrying slots end = record end { placed = slots ∷ end.placed }
 abbrev pub with_slots : List Slot → End → End
 with_slots slots end = record end { placed = carried_by end.status slots end.placed }
 
--- the placements that an outcome carries, of a first and of a second set, in this order. A second without a first
--- counts for three, with which no run ends: so no command can put its only placement in the second's place
-abbrev pub slots_within : Option (List Slot) → Option (List Slot) → List (List Slot)
-slots_within None None = []
-slots_within (Some slots) None = slots ∷ []
-slots_within (Some slots) (Some others) = slots ∷ others ∷ []
-slots_within None (Some others) = others ∷ others ∷ others ∷ []
-
-abbrev pub placements_of : Outcome → List (List Slot)
-placements_of outcome = slots_within outcome.placement outcome.second
+-- the list of the placements that an outcome carries
+abbrev pub slots_of : Placements → List (List Slot)
+slots_of placements.None = []
+slots_of (placements.One slots) = slots ∷ []
+slots_of (placements.Two slots others) = slots ∷ others ∷ []
+slots_of (placements.Many all) = all.items
 
 -- how a run with this outcome ended
 abbrev pub ended : Outcome → Outside → End
 ended outcome after =
-    record { status = outcome.status; placed = placements_of outcome; wire = outcome.wire; left = after }
+    record { status = outcome.status; placed = slots_of outcome.placements; wire = outcome.wire; left = after }
 
 -- how a run ended that has this outcome, or was refused before it had one
 abbrev pub end_of : Result Outcome Status → Outside → End

@@ -8,7 +8,7 @@ mod placing;
 mod showing;
 mod steps;
 
-pub use outcome::{Outcome, outcome_of};
+pub use outcome::{Outcome, Placements, outcome_of};
 pub use placing::place_items;
 pub use showing::print_shown;
 pub use steps::{
