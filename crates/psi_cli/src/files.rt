@@ -1,6 +1,5 @@
 // The files of the system: opened to be read, and replaced as a whole.
 ghost use Rattle.std.specs.Prelude.{◌≡◌, ◌≢◌, Contains, IsErr};
-
 ghost use Rattle.std.specs.declared.io.ErrorKind.TheVariants as kind;
 ghost use Rattle.psi_cli.specs.Files.{StillUsed};
 

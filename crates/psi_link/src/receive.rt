@@ -26,8 +26,8 @@ use psi_log::{Recorder, write_record};
 use psi_receiver::{LoggedReceiver, ReceiverCore, run_receiver};
 use psi_texts::Status;
 use psi_walk::{
-    Outcome, Placements, open_link, outcome_of, place_items, print_shown, read_items, read_receiver_deal,
-    session_status, status, write_word,
+    Outcome, Placements, open_link, outcome_of, place_items, print_shown, read_items,
+    read_receiver_deal, session_status, status, write_word,
 };
 use std::alloc::Global;
 

@@ -19,8 +19,8 @@ use psi_items::Items;
 use psi_receiver::row_words;
 use psi_texts::Status;
 use psi_walk::{
-    Outcome, Placements, outcome_of, place_items, read_items, read_receiver_deal, read_sender_deal, status,
-    write_word,
+    Outcome, Placements, outcome_of, place_items, read_items, read_receiver_deal, read_sender_deal,
+    status, write_word,
 };
 use std::alloc::Global;
 
