@@ -37,7 +37,7 @@ pub data Tree : Type 0 where
   opens : Link → Tree → Tree
   -- runs this end of a session over the link
   talks : Dialogue → (List ℕ → Tree) → Tree
-  -- all memory is taken: from here on none is wanting but where the outside counts a refusal
+  -- all memory is taken: from here on only a call of the outside and a session can want any
   holds : Tree → Tree
   -- does these in order, and is done, with the digest of the session that was run, if one was
   ends : Option (List ℕ) → List Effect → Tree
