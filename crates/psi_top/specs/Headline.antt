@@ -16,7 +16,8 @@ abbrev pub LocalShows : Known → List (List ℕ) → Outside → End → Type 0
 LocalShows known words before end =
     command_of words ≡ Some Local → end.status ≡ Done → PrintedShown known words before end
 
--- where `receive` is done it printed the common items of an honest peer, and others only with the tag of a sender's item
+-- where `receive` is done it printed the common items of an honest peer, and others only with the tag of a sender's
+-- item
 abbrev pub ReceiveFinds : Known → List (List ℕ) → Outside → End → Type 0
 ReceiveFinds known words before end =
     command_of words ≡ Some Receive → end.status ≡ Done → FoundCommon known words before end.placed end.left

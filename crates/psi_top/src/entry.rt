@@ -74,9 +74,9 @@ pub fn run<W: World>(alloc: Global, words: &Words, world: &mut W) -> Outcome
     // What a run that is done read and left, in every world.
     ensures done { DoneLeaves W.known words.now (W.outside world.old) (ended result (W.outside world.new)) }
 
-    // What the command itself promises, in its own words: `promise_of` names for each command the promise that stands in
-    // its crate. Each says what the command may answer and why, what it leaves where it is done, and from what it is
-    // done. Those that make the headline are spelled out below.
+    // What the command itself promises, in its own words: `promise_of` names for each command the promise that stands
+    // in its crate. Each says what it may answer and why, what it leaves where it is done, or from what it is done.
+    // Those that make the headline are spelled out below.
     ensures promised { Promised W.known words.now (W.outside world.old) (ended result (W.outside world.new)) }
 
     // Where `local` is done, the outcome's slots are a placement of the receiver's items. With it `local` printed every

@@ -176,8 +176,8 @@ TwinCompletes words before end =
 
 -- ---- all of it
 
--- all that `twin` promises: it answers so, sends and takes nothing, shows what is hidden where it is done, has no digest,
--- and completes
+-- all that `twin` promises: it answers so, sends and takes nothing, shows what is hidden where it is done, has no
+-- digest, and completes
 pub record TwinPromise (known : Known) (words : List (List ℕ)) (before : Outside) (end : End) : Type 0 where
   pub answers : TwinAnswers known words before end.placed end.status
   pub silent : IsSilent before end.left
