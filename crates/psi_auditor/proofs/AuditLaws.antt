@@ -31,6 +31,8 @@ use Rattle.psi_walk.specs.Walk.{Runs}
 use Rattle.psi_walk.proofs.Left.{follows_leaves}
 use Rattle.psi_walk.proofs.Through.{runs_through}
 use Rattle.psi_walk.proofs.Wired.{MayBeWired, decides_wired, ends_wired, items_wired, receiver_wired, record_wired, runs_unwired, sender_wired}
+use Rattle.psi_walk.specs.Command.{Keeps}
+use Rattle.psi_auditor.specs.Commands.{command_audit}
 
 -- ---- what was read
 
@@ -335,7 +337,7 @@ audit_answers known words before end h =
     of_first known words before end.placed end.status end.left done
     (answered_items known words 1 (λ xs. reads_items 2 (λ ys. reads_receiver 3 (λ receiver. reads_sender 4 (λ sender. audit_record receiver sender xs ys)))) before end.placed end.status end.left (follows_answers known words false audit_tree before end h))
 
-pub audit_promise : (known : Known) (words : List (List ℕ)) (before : Outside) (end : End) → Runs known words audit_tree before end → AuditPromise known words before end
+audit_promise : (known : Known) (words : List (List ℕ)) (before : Outside) (end : End) → Runs known words audit_tree before end → AuditPromise known words before end
 unfolding Answered
 audit_promise known words before end h =
     let answered = audit_answers known words before end h in
@@ -343,7 +345,10 @@ audit_promise known words before end h =
       answers = answered.0;
       silent = answered.1;
       places_none = none_is_placed known words false audit_tree before end.placed end.status end.left audit_places_none (follows_answers known words false audit_tree before end h);
-      wire = runs_unwired known words audit_tree before end audit_unwired h;
       completes = λ files is can calm.
           runs_through known words false audit_tree before end h (ready_told files words before audit_tree is (audit_is_ready words files before can)) calm;
     }
+
+pub audit_keeps : (known : Known) (words : List (List ℕ)) (before : Outside) (end : End) → Runs known words audit_tree before end
+    → Keeps command_audit known words before end
+audit_keeps known words before end h = record { promise = audit_promise known words before end h; wire = runs_unwired known words audit_tree before end audit_unwired h }

@@ -169,10 +169,9 @@ AuditCompletes words before end =
 
 -- ---- all of it
 
--- all that `audit` promises: it answers so, sends and takes nothing, places no set, has no digest, and completes
+-- all that `audit` promises: it answers so, sends and takes nothing, places no set, and completes
 pub record AuditPromise (known : Known) (words : List (List ℕ)) (before : Outside) (end : End) : Type 0 where
   pub answers : AuditAnswers known words before end.status end.left
   pub silent : IsSilent before end.left
   pub places_none : end.placed ≡ []
-  pub wire : end.wire ≡ None
   pub completes : AuditCompletes words before end

@@ -1,2 +1,3 @@
 pub mod Audit
 pub mod AuditPromises
+pub mod Commands

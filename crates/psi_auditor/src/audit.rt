@@ -1,5 +1,7 @@
 // The audit of a recorded session.
 
+ghost use Rattle.psi_walk.specs.Command.{Answers, KeepsInForm};
+ghost use Rattle.psi_auditor.specs.Commands.{command_audit};
 ghost use Rattle.psi_spec.specs.Frames.{AreBytes};
 ghost use Rattle.psi_spec.specs.Limits.{record_limit};
 ghost use Rattle.std.specs.Prelude.{◌≤◌, List, ℕ, length};
@@ -19,7 +21,13 @@ use psi_texts::Status;
 use psi_walk::{
     Outcome, judge_record, outcome_of, read_bytes, read_items, read_receiver_deal, read_sender_deal,
 };
+use psi_words::{CommandForms, Form, bad_word};
 use std::alloc::Global;
+
+const AUDIT: CommandForms = CommandForms {
+    needed: &[Form::Name, Form::Name, Form::Name, Form::Name, Form::Name],
+    optional: &[],
+};
 
 // What the session shows that is recorded, or why the record is not that of these inputs.
 #[tactic(auto, unfolding(crate::specs::Audit::findings_of))]
@@ -110,15 +118,19 @@ fn audit_steps<W: World>(alloc: Global, words: &Words, world: &mut W) -> Result<
 /// files, and the record. A collision is a line with the place of a shown item that is no item of the sender, and that
 /// of the first item of the sender whose tag it shares, both counted from 0.
 pub fn audit_command<W: World>(alloc: Global, words: &Words, world: &mut W) -> Outcome
-    // How it follows the tree of the command, step by step. The promise follows from it.
-    ensures steps { Runs W.known words.now audit_tree (W.outside world.old)
-        (ended result (W.outside world.new)) }
+    // A bad word is refused at its place, and changes nothing. From words in form it follows the tree of the command,
+    // step by step. The promise follows from it.
+    ensures steps { Answers command_audit W.known words.now (W.outside world.old) (ended result (W.outside world.new)) }
 
     // What it may answer, and why: its files are judged in order, then the deals, the recorded slots and the recorded
     // frames. Where it is done the record is that of the session, and the text of what is shown and of each collision
     // was printed. It sends and takes nothing. From valid lists, a pair of deals and a record of their session it is
     // done where no fault was counted or the world is steady, or memory was wanting.
-    ensures promise { AuditPromise W.known words.now (W.outside world.old) (ended result (W.outside world.new)) }
+    ensures promise { KeepsInForm command_audit W.known words.now (W.outside world.old)
+        (ended result (W.outside world.new)) }
 {
+    if let Some(at) = bad_word(words, AUDIT) {
+        return Outcome::of(Status::BadWords { at });
+    }
     outcome_of(audit_steps(alloc, words, world))
 }

@@ -2,6 +2,8 @@
 #![tactic(auto)]
 
 mod audit;
+mod commands;
 mod findings;
 
 pub use audit::audit_command;
+pub use commands::carry_out;

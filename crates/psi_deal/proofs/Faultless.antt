@@ -5,12 +5,12 @@ use Rattle.std.proofs.lemmas.Bool.{eqb-true, lt-ltb}
 use Rattle.std.proofs.lemmas.Slice.Eq.{bytes_eq-Decides}
 use Rattle.sha2.specs.Sha256.{sha256}
 use Rattle.psi_spec.specs.Deals.{ReceiverDeal, SenderDeal, IsReceiverDeal, IsSenderDeal, ArePair, fits_tag_length, fits_stash, seed_pairs, chosen_from, deal_bytes, dealt_receiver, dealt_sender}
-use Rattle.psi_spec.specs.DealFiles.{deal_version, has_magic, has_other, is_sealed, sealed, receiver_size, sender_size, receiver_bytes, sender_bytes, seeds_of, receiver_of, sender_of}
+use Rattle.psi_spec.specs.DealFiles.{deal_version, has_magic, has_other, is_sealed, sealed, receiver_file_size, sender_file_size, receiver_bytes, sender_bytes, seeds_of, receiver_of, sender_of}
 use Rattle.psi_spec.proofs.Packing.{AreBytes}
 use Rattle.psi_spec.proofs.DealFiles.{receiver_body, receiver_sealed, receiver_front, length-receiver_body, length-receiver_bytes, receiver_again, receiver_of_sizes, receiver_files_read_back, sender_body, sender_sealed, sender_front, length-sender_body, length-sender_bytes, sender_again, sender_of_sizes, sender_files_read_back, sealed_parts}
 use Rattle.psi_deal.specs.declared.errors.BadDeal.{BadDeal}
 use Rattle.psi_deal.specs.declared.errors.BadDeal.TheVariants.{Magic, Version, Role, Length, TagBytes, StashRows, Seal}
-use Rattle.psi_deal.specs.BadDeals.{bad_deal, bad_request, Answers}
+use Rattle.psi_deal.specs.BadDeals.{bad_deal, bad_request, IsJudged}
 use Rattle.psi_deal.specs.declared.head.Head.{Head}
 use Rattle.psi_deal.specs.declared.seeds.SeedPair.{SeedPair as Pair}
 use Rattle.psi_deal.specs.Pairs.{pairs_of, receiver_view, sender_view}
@@ -96,15 +96,15 @@ sealed_is n body bytes e l size =
 
 -- ---- the receiver's file
 
-pub good_receiver_file : (bytes : List ℕ) → AreBytes bytes → IsGood 0 receiver_size bytes → receiver_bytes (receiver_of bytes) ≡ bytes
+pub good_receiver_file : (bytes : List ℕ) → AreBytes bytes → IsGood 0 receiver_file_size bytes → receiver_bytes (receiver_of bytes) ≡ bytes
 good_receiver_file bytes small g =
     let long : length bytes ≡ 32848 = eqb-true (length bytes) 32848 g.long in
     receiver_again bytes small long ((bytes_eq-Decides (take 4 bytes) (codes "PSID")).0 g.magic) (byte_is 4 2 bytes (omega arith) g.version) (byte_is 5 0 bytes (omega arith) g.kind) (is_sealed_by 32816 bytes (omega arith) g.seal)
 
-pub good_receiver : (bytes : List ℕ) → AreBytes bytes → IsGood 0 receiver_size bytes → IsReceiverDeal (receiver_of bytes)
+pub good_receiver : (bytes : List ℕ) → AreBytes bytes → IsGood 0 receiver_file_size bytes → IsReceiverDeal (receiver_of bytes)
 good_receiver bytes small g = receiver_of_sizes bytes small (eqb-true (length bytes) 32848 g.long) g.tag_length g.stash
 
-pub receiver_file_is_good : (deal : ReceiverDeal) → IsReceiverDeal deal → IsGood 0 receiver_size (receiver_bytes deal)
+pub receiver_file_is_good : (deal : ReceiverDeal) → IsReceiverDeal deal → IsGood 0 receiver_file_size (receiver_bytes deal)
 receiver_file_is_good deal h =
     let f = receiver_front deal h in
     let bytes : List ℕ = receiver_bytes deal in
@@ -121,15 +121,15 @@ receiver_file_is_good deal h =
 
 -- ---- the sender's file
 
-pub good_sender_file : (bytes : List ℕ) → AreBytes bytes → IsGood 1 sender_size bytes → sender_bytes (sender_of bytes) ≡ bytes
+pub good_sender_file : (bytes : List ℕ) → AreBytes bytes → IsGood 1 sender_file_size bytes → sender_bytes (sender_of bytes) ≡ bytes
 good_sender_file bytes small g =
     let long : length bytes ≡ 16528 = eqb-true (length bytes) 16528 g.long in
     sender_again bytes small long ((bytes_eq-Decides (take 4 bytes) (codes "PSID")).0 g.magic) (byte_is 4 2 bytes (omega arith) g.version) (byte_is 5 1 bytes (omega arith) g.kind) (is_sealed_by 16496 bytes (omega arith) g.seal)
 
-pub good_sender : (bytes : List ℕ) → AreBytes bytes → IsGood 1 sender_size bytes → IsSenderDeal (sender_of bytes)
+pub good_sender : (bytes : List ℕ) → AreBytes bytes → IsGood 1 sender_file_size bytes → IsSenderDeal (sender_of bytes)
 good_sender bytes small g = sender_of_sizes bytes small (eqb-true (length bytes) 16528 g.long) g.tag_length g.stash
 
-pub sender_file_is_good : (deal : SenderDeal) → IsSenderDeal deal → IsGood 1 sender_size (sender_bytes deal)
+pub sender_file_is_good : (deal : SenderDeal) → IsSenderDeal deal → IsGood 1 sender_file_size (sender_bytes deal)
 sender_file_is_good deal h =
     let f = sender_front deal h in
     let bytes : List ℕ = sender_bytes deal in
@@ -146,31 +146,31 @@ sender_file_is_good deal h =
 
 -- ---- what reading answers
 
-pub receiver_found : (bytes : List ℕ) (result : Result ReceiverDeal BadDeal) → AreBytes bytes → Answers (bad_deal 0 receiver_size bytes) (receiver_of bytes) result → IfOk result (λ deal. IsReceiverDeal deal × (bytes ≡ receiver_bytes deal))
+pub receiver_found : (bytes : List ℕ) (result : Result ReceiverDeal BadDeal) → AreBytes bytes → IsJudged (bad_deal 0 receiver_file_size bytes) (receiver_of bytes) result → IfOk result (λ deal. IsReceiverDeal deal × (bytes ≡ receiver_bytes deal))
 receiver_found bytes (Ok deal) small h =
-    let g : IsGood 0 receiver_size bytes = good_from_none 0 receiver_size bytes h.0 in
+    let g : IsGood 0 receiver_file_size bytes = good_from_none 0 receiver_file_size bytes h.0 in
     subst (λ (d : ReceiverDeal). IsReceiverDeal d × (bytes ≡ receiver_bytes d)) (sym h.1) (good_receiver bytes small g, sym (good_receiver_file bytes small g))
 receiver_found bytes (Err bad) small h = tt
 
-pub receiver_only : (bytes : List ℕ) (result : Result ReceiverDeal BadDeal) (deal : ReceiverDeal) → Answers (bad_deal 0 receiver_size bytes) (receiver_of bytes) result → IsReceiverDeal deal → bytes ≡ receiver_bytes deal → Answers None deal result
+pub receiver_only : (bytes : List ℕ) (result : Result ReceiverDeal BadDeal) (deal : ReceiverDeal) → IsJudged (bad_deal 0 receiver_file_size bytes) (receiver_of bytes) result → IsReceiverDeal deal → bytes ≡ receiver_bytes deal → IsJudged None deal result
 receiver_only bytes result deal h is e =
-    let good : IsGood 0 receiver_size bytes = subst (IsGood 0 receiver_size) (sym e) (receiver_file_is_good deal is) in
-    let none : bad_deal 0 receiver_size bytes ≡ None = none_from_good 0 receiver_size bytes good in
+    let good : IsGood 0 receiver_file_size bytes = subst (IsGood 0 receiver_file_size) (sym e) (receiver_file_is_good deal is) in
+    let none : bad_deal 0 receiver_file_size bytes ≡ None = none_from_good 0 receiver_file_size bytes good in
     let same : receiver_of bytes ≡ deal = ap receiver_of e ∙ receiver_files_read_back deal is in
-    subst (λ (bad : Option BadDeal). Answers bad deal result) none (subst (λ (d : ReceiverDeal). Answers (bad_deal 0 receiver_size bytes) d result) same h)
+    subst (λ (bad : Option BadDeal). IsJudged bad deal result) none (subst (λ (d : ReceiverDeal). IsJudged (bad_deal 0 receiver_file_size bytes) d result) same h)
 
-pub sender_found : (bytes : List ℕ) (result : Result SenderDeal BadDeal) → AreBytes bytes → Answers (bad_deal 1 sender_size bytes) (sender_of bytes) result → IfOk result (λ deal. IsSenderDeal deal × (bytes ≡ sender_bytes deal))
+pub sender_found : (bytes : List ℕ) (result : Result SenderDeal BadDeal) → AreBytes bytes → IsJudged (bad_deal 1 sender_file_size bytes) (sender_of bytes) result → IfOk result (λ deal. IsSenderDeal deal × (bytes ≡ sender_bytes deal))
 sender_found bytes (Ok deal) small h =
-    let g : IsGood 1 sender_size bytes = good_from_none 1 sender_size bytes h.0 in
+    let g : IsGood 1 sender_file_size bytes = good_from_none 1 sender_file_size bytes h.0 in
     subst (λ (d : SenderDeal). IsSenderDeal d × (bytes ≡ sender_bytes d)) (sym h.1) (good_sender bytes small g, sym (good_sender_file bytes small g))
 sender_found bytes (Err bad) small h = tt
 
-pub sender_only : (bytes : List ℕ) (result : Result SenderDeal BadDeal) (deal : SenderDeal) → Answers (bad_deal 1 sender_size bytes) (sender_of bytes) result → IsSenderDeal deal → bytes ≡ sender_bytes deal → Answers None deal result
+pub sender_only : (bytes : List ℕ) (result : Result SenderDeal BadDeal) (deal : SenderDeal) → IsJudged (bad_deal 1 sender_file_size bytes) (sender_of bytes) result → IsSenderDeal deal → bytes ≡ sender_bytes deal → IsJudged None deal result
 sender_only bytes result deal h is e =
-    let good : IsGood 1 sender_size bytes = subst (IsGood 1 sender_size) (sym e) (sender_file_is_good deal is) in
-    let none : bad_deal 1 sender_size bytes ≡ None = none_from_good 1 sender_size bytes good in
+    let good : IsGood 1 sender_file_size bytes = subst (IsGood 1 sender_file_size) (sym e) (sender_file_is_good deal is) in
+    let none : bad_deal 1 sender_file_size bytes ≡ None = none_from_good 1 sender_file_size bytes good in
     let same : sender_of bytes ≡ deal = ap sender_of e ∙ sender_files_read_back deal is in
-    subst (λ (bad : Option BadDeal). Answers bad deal result) none (subst (λ (d : SenderDeal). Answers (bad_deal 1 sender_size bytes) d result) same h)
+    subst (λ (bad : Option BadDeal). IsJudged bad deal result) none (subst (λ (d : SenderDeal). IsJudged (bad_deal 1 sender_file_size bytes) d result) same h)
 
 -- ---- deals that are made part by part
 
@@ -196,7 +196,7 @@ dealt_sender_made seed session tag_length stash head choice seeds id number key 
     λ i. record { id = id i; session = number i; key = key i; tag_length = length i; stash = rows i; choice = word i; chosen = chosen i }
 
 -- what is answered for a pair is a pair
-pub pair_answered : (bad : Option BadDeal) (r : ReceiverDeal) (s : SenderDeal) (result : Result (ReceiverDeal × SenderDeal) BadDeal) → Answers bad (r, s) result → ArePair r s → IfOk result (λ deals. ArePair deals.0 deals.1)
+pub pair_answered : (bad : Option BadDeal) (r : ReceiverDeal) (s : SenderDeal) (result : Result (ReceiverDeal × SenderDeal) BadDeal) → IsJudged bad (r, s) result → ArePair r s → IfOk result (λ deals. ArePair deals.0 deals.1)
 pair_answered bad r s (Ok deals) h pair = subst (λ (d : ReceiverDeal × SenderDeal). ArePair d.0 d.1) (sym h.1) pair
 pair_answered bad r s (Err refusal) h pair = tt
 

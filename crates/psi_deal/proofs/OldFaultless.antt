@@ -16,7 +16,7 @@ use Rattle.psi_deal.specs.declared.role.Role.TheVariants as kind
 use Rattle.psi_deal.specs.declared.old_files.OldDeal.{OldDeal}
 use Rattle.psi_deal.specs.declared.old_files.OldDeal.TheVariants.{Receiver, Sender}
 use Rattle.psi_deal.specs.Roles.{old_role_size, named_role}
-use Rattle.psi_deal.specs.BadDeals.{has_above, bad_old_deal, Answers}
+use Rattle.psi_deal.specs.BadDeals.{has_above, bad_old_deal, IsJudged}
 use Rattle.psi_deal.specs.OldDeals.{IsOldFile, old_deal_for, old_deal_of}
 use Rattle.psi_deal.specs.declared.head.Head.{Head}
 use Rattle.psi_deal.specs.declared.seeds.SeedPair.{SeedPair as Pair}
@@ -178,15 +178,15 @@ old_file_spells (Sender deal) bytes file =
 
 -- ---- what reading answers
 
-pub old_found : (bytes : List ℕ) (result : Result OldDeal BadDeal) → AreBytes bytes → Answers (bad_old_deal bytes) (old_deal_of bytes) result → IfOk result (λ deal. IsOldFile deal bytes)
+pub old_found : (bytes : List ℕ) (result : Result OldDeal BadDeal) → AreBytes bytes → IsJudged (bad_old_deal bytes) (old_deal_of bytes) result → IfOk result (λ deal. IsOldFile deal bytes)
 old_found bytes (Ok deal) small h =
     subst (λ (d : OldDeal). IsOldFile d bytes) (sym h.1) (good_old_file bytes small h.0)
 old_found bytes (Err bad) small h = tt
 
-pub old_only : (bytes : List ℕ) (result : Result OldDeal BadDeal) (deal : OldDeal) → Answers (bad_old_deal bytes) (old_deal_of bytes) result → IsOldFile deal bytes → Answers None deal result
+pub old_only : (bytes : List ℕ) (result : Result OldDeal BadDeal) (deal : OldDeal) → IsJudged (bad_old_deal bytes) (old_deal_of bytes) result → IsOldFile deal bytes → IsJudged None deal result
 old_only bytes result deal h file =
     let spelled = old_file_spells deal bytes file in
-    subst (λ (bad : Option BadDeal). Answers bad deal result) spelled.0 (subst (λ (d : OldDeal). Answers (bad_old_deal bytes) d result) spelled.1 h)
+    subst (λ (bad : Option BadDeal). IsJudged bad deal result) spelled.0 (subst (λ (d : OldDeal). IsJudged (bad_old_deal bytes) d result) spelled.1 h)
 
 -- ---- deals that are made part by part
 

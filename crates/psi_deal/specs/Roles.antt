@@ -1,6 +1,6 @@
 -- The two kinds of deal files.
 use Rattle.std.specs.Prelude.{ℕ, ◌==◌, List, slice_index, if◌then◌else◌}
-use Rattle.psi_spec.specs.DealFiles.{receiver_size, sender_size}
+use Rattle.psi_spec.specs.DealFiles.{receiver_file_size, sender_file_size}
 use Rattle.psi_spec.specs.OldDealFiles.{old_receiver_size, old_sender_size}
 use Rattle.psi_deal.specs.declared.role.Role.{Role}
 use Rattle.psi_deal.specs.declared.role.Role.TheVariants.{Receiver, Sender}
@@ -12,8 +12,8 @@ role_byte Sender = 1
 
 -- the bytes of each file of a role
 abbrev pub role_size : Role → ℕ
-role_size Receiver = receiver_size
-role_size Sender = sender_size
+role_size Receiver = receiver_file_size
+role_size Sender = sender_file_size
 
 -- the bytes of each file of version 1 of a role
 abbrev pub old_role_size : Role → ℕ

@@ -1,7 +1,7 @@
 // The pair of deals of a seed.
 ghost use Rattle.std.specs.Prelude.{◌≡◌, IfOk, None, vec_len};
 ghost use Rattle.psi_spec.specs.Deals.{ArePair, IsReceiverDeal, IsSenderDeal, deal_bytes, dealt_receiver, dealt_sender};
-ghost use Rattle.psi_deal.specs.BadDeals.{Answers, bad_request};
+ghost use Rattle.psi_deal.specs.BadDeals.{IsJudged, bad_request};
 
 use crate::arrays::array_at;
 use crate::columns::fill_stream;
@@ -43,7 +43,7 @@ pub fn deal(
     tag_length: u8,
     stash: u8,
 ) -> Result<(ReceiverDeal, SenderDeal), BadDeal>
-    ensures answers { Answers (bad_request tag_length stash) (
+    ensures answers { IsJudged (bad_request tag_length stash) (
       dealt_receiver seed.now session tag_length stash,
       dealt_sender seed.now session tag_length stash,
     ) result }

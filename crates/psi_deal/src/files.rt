@@ -2,8 +2,8 @@
 ghost use Rattle.std.specs.Prelude.{◌≡◌, ◌≤◌, length, IfOk, None};
 ghost use Rattle.psi_spec.specs.Limits.{file_limit};
 ghost use Rattle.psi_spec.specs.Deals.{ReceiverDeal as Receiver, SenderDeal as Sender, IsReceiverDeal, IsSenderDeal};
-ghost use Rattle.psi_spec.specs.DealFiles.{sealed, receiver_size, sender_size, receiver_of, sender_of, receiver_bytes, sender_bytes};
-ghost use Rattle.psi_deal.specs.BadDeals.{Answers, bad_deal};
+ghost use Rattle.psi_spec.specs.DealFiles.{sealed, receiver_file_size, sender_file_size, receiver_of, sender_of, receiver_bytes, sender_bytes};
+ghost use Rattle.psi_deal.specs.BadDeals.{IsJudged, bad_deal};
 
 use crate::arrays::array_at;
 use crate::errors::BadDeal;
@@ -25,10 +25,10 @@ use std::alloc::{AllocError, Global};
 /// over. `NoMemory` comes after all of them, where memory is wanting.
 pub fn read_receiver(alloc: Global, bytes: &[u8]) -> Result<ReceiverDeal, BadDeal>
     requires { length bytes.now ≤ file_limit }
-    ensures exact { Answers (bad_deal 0 receiver_size bytes.now) (receiver_of bytes.now) result }
+    ensures exact { IsJudged (bad_deal 0 receiver_file_size bytes.now) (receiver_of bytes.now) result }
     ensures found { IfOk result (λ deal. IsReceiverDeal deal × (bytes.now ≡ receiver_bytes deal)) }
     ensures only { (deal : Receiver) → IsReceiverDeal deal → bytes.now ≡ receiver_bytes deal →
-        Answers None deal result }
+        IsJudged None deal result }
 {
     if let Some(bad) = judge(bytes, Role::Receiver) {
         return Err(bad);
@@ -38,7 +38,7 @@ pub fn read_receiver(alloc: Global, bytes: &[u8]) -> Result<ReceiverDeal, BadDea
 
 // The deal of a receiver's file without a fault.
 fn receiver_in(alloc: Global, bytes: &[u8]) -> Result<ReceiverDeal, AllocError>
-    requires { bad_deal 0 receiver_size bytes.now ≡ None }
+    requires { bad_deal 0 receiver_file_size bytes.now ≡ None }
     ensures { IfOk result (λ deal. deal ≡ receiver_of bytes.now) }
 {
     let head = Head::read(bytes, bytes[47]);
@@ -50,10 +50,10 @@ fn receiver_in(alloc: Global, bytes: &[u8]) -> Result<ReceiverDeal, AllocError>
 /// receiver's file, with the sender's role and length.
 pub fn read_sender(alloc: Global, bytes: &[u8]) -> Result<SenderDeal, BadDeal>
     requires { length bytes.now ≤ file_limit }
-    ensures exact { Answers (bad_deal 1 sender_size bytes.now) (sender_of bytes.now) result }
+    ensures exact { IsJudged (bad_deal 1 sender_file_size bytes.now) (sender_of bytes.now) result }
     ensures found { IfOk result (λ deal. IsSenderDeal deal × (bytes.now ≡ sender_bytes deal)) }
     ensures only { (deal : Sender) → IsSenderDeal deal → bytes.now ≡ sender_bytes deal →
-        Answers None deal result }
+        IsJudged None deal result }
 {
     if let Some(bad) = judge(bytes, Role::Sender) {
         return Err(bad);
@@ -63,7 +63,7 @@ pub fn read_sender(alloc: Global, bytes: &[u8]) -> Result<SenderDeal, BadDeal>
 
 // The deal of a sender's file without a fault.
 fn sender_in(alloc: Global, bytes: &[u8]) -> Result<SenderDeal, AllocError>
-    requires { bad_deal 1 sender_size bytes.now ≡ None }
+    requires { bad_deal 1 sender_file_size bytes.now ≡ None }
     ensures { IfOk result (λ deal. deal ≡ sender_of bytes.now) }
 {
     let head = Head::read(bytes, bytes[47]);
@@ -89,7 +89,7 @@ fn seal(mut bytes: Vec<u8>) -> Result<Vec<u8>, AllocError>
 #[tactic(auto, unfolding(psi_spec::specs::DealFiles::receiver_bytes))]
 pub fn write_receiver(alloc: Global, deal: &ReceiverDeal) -> Result<Vec<u8>, NoMemory>
     ensures file { IfOk result (λ bytes. bytes.items ≡ receiver_bytes deal.now) }
-    ensures size { IfOk result (λ bytes. length bytes.items ≡ receiver_size) }
+    ensures size { IfOk result (λ bytes. length bytes.items ≡ receiver_file_size) }
     ensures deal { IsReceiverDeal deal.now }
 {
     let mut bytes = deal.head.write(alloc, Role::Receiver)?;
@@ -101,7 +101,7 @@ pub fn write_receiver(alloc: Global, deal: &ReceiverDeal) -> Result<Vec<u8>, NoM
 #[tactic(auto, unfolding(psi_spec::specs::DealFiles::sender_bytes))]
 pub fn write_sender(alloc: Global, deal: &SenderDeal) -> Result<Vec<u8>, NoMemory>
     ensures file { IfOk result (λ bytes. bytes.items ≡ sender_bytes deal.now) }
-    ensures size { IfOk result (λ bytes. length bytes.items ≡ sender_size) }
+    ensures size { IfOk result (λ bytes. length bytes.items ≡ sender_file_size) }
     ensures deal { IsSenderDeal deal.now }
 {
     let mut bytes = deal.head.write(alloc, Role::Sender)?;

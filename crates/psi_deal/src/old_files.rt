@@ -2,7 +2,7 @@
 ghost use Rattle.std.specs.Prelude.{◌≡◌, ◌≤◌, ◌<◌, ◌^◌, length, IfOk, None};
 ghost use Rattle.psi_spec.specs.Limits.{file_limit};
 ghost use Rattle.psi_spec.specs.OldDealFiles.{old_receiver_of, old_sender_of};
-ghost use Rattle.psi_deal.specs.BadDeals.{Answers, bad_old_deal};
+ghost use Rattle.psi_deal.specs.BadDeals.{IsJudged, bad_old_deal};
 ghost use Rattle.psi_deal.specs.Roles.{named_role};
 ghost use Rattle.psi_deal.specs.declared.role.Role.TheVariants.{Receiver, Sender};
 ghost use Rattle.psi_deal.specs.OldDeals.{IsOldFile, old_deal_of, renewed};
@@ -54,9 +54,9 @@ impl OldDeal {
 /// short to hold is passed over, and the length decides. `NoMemory` comes after all of them, where memory is wanting.
 pub fn read_old(alloc: Global, bytes: &[u8]) -> Result<OldDeal, BadDeal>
     requires { length bytes.now ≤ file_limit }
-    ensures exact { Answers (bad_old_deal bytes.now) (old_deal_of bytes.now) result }
+    ensures exact { IsJudged (bad_old_deal bytes.now) (old_deal_of bytes.now) result }
     ensures found { IfOk result (λ deal. IsOldFile deal bytes.now) }
-    ensures only { (deal : Old) → IsOldFile deal bytes.now → Answers None deal result }
+    ensures only { (deal : Old) → IsOldFile deal bytes.now → IsJudged None deal result }
 {
     if let Some(bad) = judge_old(bytes) {
         return Err(bad);

@@ -81,23 +81,23 @@ impl ReceiverDeal {
         self.pairs[usize::from(c)].seed(which)
     }
 
-    /// Makes `a0` the columns of the zero seeds, and `a1` those of the one seeds. Both have the same
+    /// Makes `zeros` the columns of the zero seeds, and `ones` those of the one seeds. Both have the same
     /// number of rows.
-    pub fn columns(&self, a0: &mut Columns, a1: &mut Columns)
-        requires { a1.old.rows ≡ a0.old.rows }
-        ensures zero { a0.new ≡ record {
-          rows = a0.old.rows;
-          columns = zero_columns self.now a0.old.rows;
+    pub fn columns(&self, zeros: &mut Columns, ones: &mut Columns)
+        requires { ones.old.rows ≡ zeros.old.rows }
+        ensures zero { zeros.new ≡ record {
+          rows = zeros.old.rows;
+          columns = zero_columns self.now zeros.old.rows;
         } }
-        ensures one { a1.new ≡ record {
-          rows = a0.old.rows;
-          columns = one_columns self.now a0.old.rows;
+        ensures one { ones.new ≡ record {
+          rows = zeros.old.rows;
+          columns = one_columns self.now zeros.old.rows;
         } }
-        ensures zero_clean { IsCleanMatrix a0.new }
-        ensures one_clean { IsCleanMatrix a1.new }
+        ensures zero_clean { IsCleanMatrix zeros.new }
+        ensures one_clean { IsCleanMatrix ones.new }
     {
-        self.zero_columns(a0);
-        self.one_columns(a1);
+        self.zero_columns(zeros);
+        self.one_columns(ones);
     }
 
     /// Makes the columns those of the zero seeds.

@@ -9,13 +9,18 @@ use Rattle.psi_walk.specs.Tree.{End}
 use Rattle.psi_walk.specs.Walk.{Runs}
 use Rattle.psi_walk.proofs.Left.{follows_leaves}
 use Rattle.psi_walk.proofs.Wired.{ends_wired, runs_unwired}
+use Rattle.psi_walk.specs.Command.{Keeps}
+use Rattle.psi_dealer.specs.Commands.{command_deal}
 
 deals_are_pair : (words : List (List ℕ)) → ArePair (deal_receiver words) (deal_sender words)
 unfolding deal_receiver deal_sender
 deals_are_pair words = dealt_are_pairs (seed_of (word_at words 1)) (number_of (word_at words 2)) (tag_length_of (word_at words 3)) (stash_of (word_at words 3))
 
-pub deal_promise : (known : Known) (words : List (List ℕ)) (before : Outside) (end : End) → Runs known words (deal_tree words) before end → DealPromise words before end
+deal_promise : (known : Known) (words : List (List ℕ)) (before : Outside) (end : End) → Runs known words (deal_tree words) before end → DealPromise words before end
 deal_promise known words before end h = record {
   writes = λ done. record { pair = deals_are_pair words; left = ap (λ (e : End). e.left) (follows_leaves known words false (deal_tree words) before end done h) };
-  wire = runs_unwired known words (deal_tree words) before end (ends_wired false _) h;
 }
+
+pub deal_keeps : (known : Known) (words : List (List ℕ)) (before : Outside) (end : End) → Runs known words (deal_tree words) before end
+    → Keeps command_deal known words before end
+deal_keeps known words before end h = record { promise = deal_promise known words before end h; wire = runs_unwired known words (deal_tree words) before end (ends_wired false _) h }

@@ -25,6 +25,8 @@ use Rattle.psi_walk.specs.Walk.{Runs}
 use Rattle.psi_walk.proofs.Left.{follows_leaves}
 use Rattle.psi_walk.proofs.Through.{runs_through}
 use Rattle.psi_walk.proofs.Wired.{MayBeWired, ends_wired, old_wired, runs_unwired}
+use Rattle.psi_walk.specs.Command.{Keeps}
+use Rattle.psi_dealer.specs.Commands.{command_renew}
 
 -- ---- what a run that is done left
 
@@ -115,14 +117,17 @@ renew_answers known words before end h =
     of_old known words before end.placed end.status end.left done
     (answered_old known words 1 (λ deal. ends None (puts 2 (renewed deal) ∷ [])) before end.placed end.status end.left (follows_answers known words false renew_tree before end h))
 
-pub renew_promise : (known : Known) (words : List (List ℕ)) (before : Outside) (end : End) → Runs known words renew_tree before end → RenewPromise known words before end
+renew_promise : (known : Known) (words : List (List ℕ)) (before : Outside) (end : End) → Runs known words renew_tree before end → RenewPromise known words before end
 renew_promise known words before end h =
     let answered = renew_answers known words before end h in
     record {
       answers = answered.0;
       silent = answered.1;
       places_none = none_is_placed known words false renew_tree before end.placed end.status end.left renew_places_none (follows_answers known words false renew_tree before end h);
-      wire = runs_unwired known words renew_tree before end renew_unwired h;
       completes = λ files is can calm.
           runs_through known words false renew_tree before end h (ready_told files words before renew_tree is (renew_is_ready words files before can)) calm;
     }
+
+pub renew_keeps : (known : Known) (words : List (List ℕ)) (before : Outside) (end : End) → Runs known words renew_tree before end
+    → Keeps command_renew known words before end
+renew_keeps known words before end h = record { promise = renew_promise known words before end h; wire = runs_unwired known words renew_tree before end renew_unwired h }

@@ -33,4 +33,3 @@ pub record WroteDeals (words : List (List ℕ)) (before after : Outside) : Type 
 -- all that `deal` promises: where it is done it wrote both files, and changed nothing else
 pub record DealPromise (words : List (List ℕ)) (before : Outside) (end : End) : Type 0 where
   pub writes : end.status ≡ Done → WroteDeals words before end.left
-  pub wire : end.wire ≡ None

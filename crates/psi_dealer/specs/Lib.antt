@@ -1,3 +1,4 @@
+pub mod Commands
 pub mod Deal
 pub mod Renew
 pub mod RenewPromises

@@ -53,10 +53,9 @@ RenewCompletes words before end =
 
 -- ---- all of it
 
--- all that `renew` promises: it answers so, sends and takes nothing, places no set, has no digest, and completes
+-- all that `renew` promises: it answers so, sends and takes nothing, places no set, and completes
 pub record RenewPromise (known : Known) (words : List (List ℕ)) (before : Outside) (end : End) : Type 0 where
   pub answers : RenewAnswers known words before end.status end.left
   pub silent : IsSilent before end.left
   pub places_none : end.placed ≡ []
-  pub wire : end.wire ≡ None
   pub completes : RenewCompletes words before end

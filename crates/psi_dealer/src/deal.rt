@@ -1,8 +1,9 @@
 // The two deal files of a seed.
-ghost use Rattle.std.specs.Prelude.{◌≡◌, IfOk, None, Some};
 ghost use Rattle.psi_words.specs.Words.{bad_word};
+ghost use Rattle.psi_walk.specs.Command.{Answers, KeepsInForm};
+ghost use Rattle.psi_dealer.specs.Commands.{command_deal, deal_forms};
+ghost use Rattle.std.specs.Prelude.{◌≡◌, IfOk, None, Some};
 ghost use Rattle.psi_dealer.specs.Deal.{deal_receiver, deal_sender, deal_tree, DealPromise};
-ghost use Rattle.psi_words.specs.Form.{command_of};
 ghost use Rattle.psi_walk.specs.Tree.{end_of, ended};
 ghost use Rattle.psi_walk.specs.Walk.{Runs};
 
@@ -10,14 +11,24 @@ use psi_base::{NoMemory, Words, World};
 use psi_deal::{ReceiverDeal, SenderDeal, deal, write_receiver, write_sender};
 use psi_texts::Status;
 use psi_walk::{Outcome, outcome_of, write_word};
-use psi_words::{Command, seed_of, session_of, sizes_of, word_at};
+use psi_words::{CommandForms, Form, bad_word, seed_of, session_of, sizes_of, word_at};
 use std::alloc::Global;
+
+const DEAL: CommandForms = CommandForms {
+    needed: &[
+        Form::Seed,
+        Form::Session,
+        Form::Sizes,
+        Form::Name,
+        Form::Output { from: 4, to: 5 },
+    ],
+    optional: &[],
+};
 
 // The pair of deals that the words name. Words in form name no sizes that deals can't have.
 #[tactic(auto, unfolding(crate::specs::Deal::deal_receiver, crate::specs::Deal::deal_sender))]
 fn named_deals(alloc: Global, words: &Words) -> Result<(ReceiverDeal, SenderDeal), NoMemory>
-    requires fit { bad_word words.now ≡ None }
-    requires named { command_of words.now ≡ Some Command.Deal }
+    requires fit { bad_word deal_forms words.now ≡ None }
     ensures receiver { IfOk result (λ deals. deals.0 ≡ deal_receiver words.now) }
     ensures sender { IfOk result (λ deals. deals.1 ≡ deal_sender words.now) }
 {
@@ -30,8 +41,7 @@ fn named_deals(alloc: Global, words: &Words) -> Result<(ReceiverDeal, SenderDeal
 // What `deal` does. A refusal before there is an outcome is answered as an error.
 #[tactic(auto, using(psi_walk::proofs::Walks::walk))]
 fn deal_steps<W: World>(alloc: Global, words: &Words, world: &mut W) -> Result<Outcome, Status>
-    requires fit { bad_word words.now ≡ None }
-    requires named { command_of words.now ≡ Some Command.Deal }
+    requires fit { bad_word deal_forms words.now ≡ None }
     ensures { Runs W.known words.now (deal_tree words.now) (W.outside world.old)
         (end_of result (W.outside world.new)) }
 {
@@ -49,14 +59,16 @@ fn deal_steps<W: World>(alloc: Global, words: &Words, world: &mut W) -> Result<O
 /// bytes, alone or with a stroke and the number of stash rows behind it, and the two files, which have different
 /// names.
 pub fn deal_command<W: World>(alloc: Global, words: &Words, world: &mut W) -> Outcome
-    requires fit { bad_word words.now ≡ None }
-    requires named { command_of words.now ≡ Some Command.Deal }
-    // How it follows the tree of the command, step by step. The promise follows from it.
-    ensures steps { Runs W.known words.now (deal_tree words.now) (W.outside world.old)
-        (ended result (W.outside world.new)) }
+    // A bad word is refused at its place, and changes nothing. From words in form it follows the tree of the command,
+    // step by step. The promise follows from it.
+    ensures steps { Answers command_deal W.known words.now (W.outside world.old) (ended result (W.outside world.new)) }
 
     // Where it is done it wrote the files of a pair of deals, and changed nothing else.
-    ensures promise { DealPromise words.now (W.outside world.old) (ended result (W.outside world.new)) }
+    ensures promise { KeepsInForm command_deal W.known words.now (W.outside world.old)
+        (ended result (W.outside world.new)) }
 {
+    if let Some(at) = bad_word(words, DEAL) {
+        return Outcome::of(Status::BadWords { at });
+    }
     outcome_of(deal_steps(alloc, words, world))
 }

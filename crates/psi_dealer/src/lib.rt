@@ -2,8 +2,10 @@
 //! anew.
 #![tactic(auto)]
 
+mod commands;
 mod deal;
 mod renew;
 
+pub use commands::carry_out;
 pub use deal::deal_command;
 pub use renew::renew_command;

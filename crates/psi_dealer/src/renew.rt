@@ -1,4 +1,6 @@
 // A deal file of version 1, made anew.
+ghost use Rattle.psi_walk.specs.Command.{Answers, KeepsInForm};
+ghost use Rattle.psi_dealer.specs.Commands.{command_renew};
 ghost use Rattle.psi_dealer.specs.Renew.{renew_tree};
 ghost use Rattle.psi_walk.specs.Tree.{end_of, ended};
 ghost use Rattle.psi_walk.specs.Walk.{Runs};
@@ -7,7 +9,13 @@ ghost use Rattle.psi_dealer.specs.RenewPromises.{RenewPromise};
 use psi_base::{Words, World};
 use psi_texts::Status;
 use psi_walk::{Outcome, outcome_of, read_old_deal, write_word};
+use psi_words::{CommandForms, Form, bad_word};
 use std::alloc::Global;
+
+const RENEW: CommandForms = CommandForms {
+    needed: &[Form::Name, Form::Output { from: 1, to: 2 }],
+    optional: &[],
+};
 
 // What `renew` does. A refusal before there is an outcome is answered as an error.
 #[tactic(auto, using(psi_walk::proofs::Walks::walk))]
@@ -25,14 +33,18 @@ fn renew_steps<W: World>(alloc: Global, words: &Words, world: &mut W) -> Result<
 /// The words are `renew OLD NEW`: the file that is read, of either end's deal, and the one that is written, which has
 /// another name.
 pub fn renew_command<W: World>(alloc: Global, words: &Words, world: &mut W) -> Outcome
-    // How it follows the tree of the command, step by step. The promise follows from it.
-    ensures steps { Runs W.known words.now renew_tree (W.outside world.old)
-        (ended result (W.outside world.new)) }
+    // A bad word is refused at its place, and changes nothing. From words in form it follows the tree of the command,
+    // step by step. The promise follows from it.
+    ensures steps { Answers command_renew W.known words.now (W.outside world.old) (ended result (W.outside world.new)) }
 
     // What it may answer, and why: its first file is judged, and then the second is written. Where it is done, that is
     // the file of version 2 of the deal in the first, for the same end. It sends and takes nothing. From a file of
     // version 1 it is done where no fault was counted or the world is steady, or memory was wanting.
-    ensures promise { RenewPromise W.known words.now (W.outside world.old) (ended result (W.outside world.new)) }
+    ensures promise { KeepsInForm command_renew W.known words.now (W.outside world.old)
+        (ended result (W.outside world.new)) }
 {
+    if let Some(at) = bad_word(words, RENEW) {
+        return Outcome::of(Status::BadWords { at });
+    }
     outcome_of(renew_steps(alloc, words, world))
 }

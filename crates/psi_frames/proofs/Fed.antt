@@ -9,7 +9,7 @@ use Rattle.psi_frames.specs.declared.expect.Expect.{Expect}
 use Rattle.psi_frames.specs.declared.frame.Frame as lent
 use Rattle.psi_frames.specs.declared.reasons.BadFrame.{BadFrame}
 use Rattle.psi_frames.specs.Expected.{IsValid, frame_length, seen, wrong}
-use Rattle.psi_frames.specs.Boxes.{Answers, InboxState, after_feed, missing_of, taken_of}
+use Rattle.psi_frames.specs.Boxes.{IsNext, InboxState, after_feed, missing_of, taken_of}
 use Rattle.psi_frames.specs.Laws.{FedInPieces, Reads, ReadsWritten, RefusedTakesNone}
 
 pub take_past : (n : ℕ) (a b : List ℕ) (j : ℕ) → n ≡ length a + j → take n (a ++ b) ≡ a ++ take j b
@@ -61,7 +61,7 @@ refused_takes_none e box bytes bad is =
     (nothing, ap (λ (n : ℕ). record box { held = box.held ++ take n bytes }) none ∙ ap (λ (xs : List ℕ). record box { held = xs }) (append-nil box.held))
 
 -- what is answered where the held bytes are the layout of a frame
-read_by : (e : Expect) (f : Frame) (box : InboxState) (answer : Result (Option lent.Frame) BadFrame) → IsValid e f → box.held ≡ layout f → Answers box e answer → Reads f answer
+read_by : (e : Expect) (f : Frame) (box : InboxState) (answer : Result (Option lent.Frame) BadFrame) → IsValid e f → box.held ≡ layout f → IsNext box e answer → Reads f answer
 read_by e f box (Ok (Some g)) valid held found = same_frame (seen g) f found.fits valid.fits (found.values ∙ held)
 read_by e f box (Ok None) valid held found =
     let long : length box.held ≡ length (layout f) = ap length held in

@@ -9,7 +9,7 @@ use Rattle.psi_spec.specs.Frames.{AreBytes, Frame}
 use Rattle.psi_frames.specs.declared.expect.Expect.{Expect}
 use Rattle.psi_frames.specs.declared.frame.Frame as lent
 use Rattle.psi_frames.specs.declared.reasons.BadFrame.{BadFrame}
-use Rattle.psi_frames.specs.Boxes.{Answers, InboxState, Leaves, MayExpect, after_feed, missing_of, taken_of, with_lent}
+use Rattle.psi_frames.specs.Boxes.{IsNext, InboxState, Leaves, MayExpect, after_feed, missing_of, taken_of, with_lent}
 use Rattle.psi_frames.specs.Converse.{Came, Heard, Took}
 use Rattle.psi_frames.specs.Expected.{IsBegun, IsValid, IsWhole, frame_length, seen, wrong}
 use Rattle.psi_frames.specs.Script.{EndState, IsPending, Keeps, KeepsOn, after_sending, after_taking}
@@ -118,10 +118,10 @@ valid_of e bytes f whole = subst (λ (xs : List ℕ). IsWhole e xs f) (sym whole
 
 -- the frame that came whole is the one that is due
 pub heard_of : (known : Known) (e : Expect) (Told : Frame → Type 0) (state state' : EndState) (box box' box'' : InboxState) (old new : Outside) (frame : lent.Frame) (r : Result (Option lent.Frame) BadFrame)
-    → Took known e [] old box'.held new × (box' ≡ record box { held = box'.held }) → r ≡ Ok (Some frame) → Answers box' e r → Leaves box' e r box''
+    → Took known e [] old box'.held new × (box' ≡ record box { held = box'.held }) → r ≡ Ok (Some frame) → IsNext box' e r → Leaves box' e r box''
     → state' ≡ after_taking (seen frame) state → Told (seen frame) → Heard known e Told state box old state' box'' new
 heard_of known e Told state state' box box' box'' old new frame r on is answer leaves takes told =
-    let whole : IsWhole e box'.held (seen frame) = subst (λ (x : Result (Option lent.Frame) BadFrame). Answers box' e x) is answer in
+    let whole : IsWhole e box'.held (seen frame) = subst (λ (x : Result (Option lent.Frame) BadFrame). IsNext box' e x) is answer in
     let left : box'' ≡ with_lent e box' = subst (λ (x : Result (Option lent.Frame) BadFrame). Leaves box' e x box'') is leaves in
     record {
       frame = seen frame;

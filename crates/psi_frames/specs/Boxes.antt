@@ -66,10 +66,10 @@ after_feed e bytes old = record old { held = old.held ++ take (taken_of old e (l
 
 -- what `next` answers: a frame where the held bytes are a whole one, None where they begin one, and else the first
 -- field that is wrong
-abbrev pub Answers : InboxState → Expect → Result (Option Frame) BadFrame → Type 0
-Answers box e (Ok (Some frame)) = IsWhole e box.held (seen frame)
-Answers box e (Ok None) = IsBegun e box.held
-Answers box e (Err bad) = IsRefusal box e bad
+abbrev pub IsNext : InboxState → Expect → Result (Option Frame) BadFrame → Type 0
+IsNext box e (Ok (Some frame)) = IsWhole e box.held (seen frame)
+IsNext box e (Ok None) = IsBegun e box.held
+IsNext box e (Err bad) = IsRefusal box e bad
 
 -- with a whole frame lent
 abbrev pub with_lent : Expect → InboxState → InboxState

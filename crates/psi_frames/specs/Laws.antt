@@ -9,7 +9,7 @@ use Rattle.psi_frames.specs.declared.frame.Frame as lent
 use Rattle.psi_frames.specs.declared.reasons.BadFrame.{BadFrame}
 use Rattle.psi_frames.specs.declared.reasons.Reason.{Reason}
 use Rattle.psi_frames.specs.Expected.{IsBegun, IsWhole, IsValid, fields_of, frame_length, seen, wrong}
-use Rattle.psi_frames.specs.Boxes.{Answers, InboxState, after_feed, missing_of}
+use Rattle.psi_frames.specs.Boxes.{IsNext, InboxState, after_feed, missing_of}
 
 -- the fields of a frame fill it
 abbrev pub FieldsFill : Type 0
@@ -77,7 +77,7 @@ abbrev pub ReadsWritten : Type 0
 ReadsWritten =
     (e : Expect) (f : Frame) (more : List ℕ) (box : InboxState) (answer : Result (Option lent.Frame) BadFrame)
     → IsValid e f → box.held ≡ [] → box.refused ≡ None
-    → Answers (after_feed e (layout f ++ more) box) e answer → Reads f answer
+    → IsNext (after_feed e (layout f ++ more) box) e answer → Reads f answer
 
 -- an inbox that has refused wants nothing more, and takes nothing
 abbrev pub RefusedTakesNone : Type 0

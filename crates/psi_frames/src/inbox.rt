@@ -4,7 +4,7 @@ ghost use Rattle.std.specs.Borrow.{sem};
 ghost use Rattle.std.specs.Io.BufRead.{Rests};
 ghost use Rattle.psi_spec.specs.Frames.{AreBytes};
 ghost use Rattle.psi_frames.specs.contracts.inbox.Inbox.{the_row};
-ghost use Rattle.psi_frames.specs.Boxes.{Answers, Leaves, MayExpect, after_feed, missing_of, taken_of};
+ghost use Rattle.psi_frames.specs.Boxes.{IsNext, Leaves, MayExpect, after_feed, missing_of, taken_of};
 
 use crate::expect::Expect;
 use crate::fields::first_fault;
@@ -103,7 +103,7 @@ impl Inbox {
     /// answers the same refusal.
     pub fn next(&mut self, expect: &Expect) -> Result<Option<Frame<'_>>, BadFrame>
         requires { MayExpect self.old expect.now }
-        ensures answer { Answers self.old expect.now result }
+        ensures answer { IsNext self.old expect.now result }
         ensures again { IfSome self.old.refused (λ bad. result ≡ Err bad) }
         ensures* after { sem 𝓛 (Rests the_row self.entry (λ new. Leaves self.old expect.now result new)) }
     {

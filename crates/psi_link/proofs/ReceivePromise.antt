@@ -11,6 +11,8 @@ use Rattle.psi_walk.proofs.Wired.{MayBeWired, ends_wired, items_wired, receiver_
 use Rattle.psi_link.proofs.HidingLaws.{answered_hidden}
 use Rattle.psi_link.proofs.HonestLaws.{found_common}
 use Rattle.psi_link.proofs.ReceiveLaws.{receive_answers, receive_serves}
+use Rattle.psi_walk.specs.Command.{Keeps}
+use Rattle.psi_link.specs.Commands.{command_receive}
 
 receive_unwired : (words : List (List ℕ)) → MayBeWired false (receive_tree words)
 unfolding MayBeWired
@@ -18,13 +20,16 @@ receive_unwired words =
     items_wired false 2 _ (λ xs. receiver_wired false 3 (λ deal. places 2 (placing_of deal xs) (λ slots. receive_rest words xs deal slots))
     (λ deal slots taken. ends_wired false (shows_and_keeps xs deal slots taken)))
 
-pub receive_promise : (known : Known) (words : List (List ℕ)) (before : Outside) (end : End) → Runs known words (receive_tree words) before end → ReceivePromise known words before end
+receive_promise : (known : Known) (words : List (List ℕ)) (before : Outside) (end : End) → Runs known words (receive_tree words) before end → ReceivePromise known words before end
 receive_promise known words before end h =
     let answers = receive_answers known words before end h in
     record {
       answers = answers;
       finds = λ done. found_common known words before end (follows_leaves known words false (receive_tree words) before end done h);
       hides = answered_hidden known words before end.placed end.status end.left answers;
-      wire = runs_unwired known words (receive_tree words) before end (receive_unwired words) h;
       serves = receive_serves known words before end h;
     }
+
+pub receive_keeps : (known : Known) (words : List (List ℕ)) (before : Outside) (end : End) → Runs known words (receive_tree words) before end
+    → Keeps command_receive known words before end
+receive_keeps known words before end h = record { promise = receive_promise known words before end h; wire = runs_unwired known words (receive_tree words) before end (receive_unwired words) h }

@@ -35,6 +35,8 @@ use Rattle.psi_walk.specs.Walk.{Runs}
 use Rattle.psi_walk.proofs.Left.{follows_leaves}
 use Rattle.psi_walk.proofs.Through.{runs_through}
 use Rattle.psi_walk.proofs.Wired.{MayBeWired, ends_wired, items_wired, runs_unwired, sender_wired}
+use Rattle.psi_walk.specs.Command.{Keeps}
+use Rattle.psi_link.specs.Commands.{command_send}
 
 -- ---- the session
 
@@ -231,12 +233,15 @@ send_answers known words before end h =
     (answered_items known words 2 (λ ys. reads_sender 3 (λ deal. send_rest words ys deal)) before end.placed end.status end.left
     (follows_answers known words false (send_tree words) before end h))
 
-pub send_promise : (known : Known) (words : List (List ℕ)) (before : Outside) (end : End) → Runs known words (send_tree words) before end → SendPromise known words before end
+send_promise : (known : Known) (words : List (List ℕ)) (before : Outside) (end : End) → Runs known words (send_tree words) before end → SendPromise known words before end
 send_promise known words before end h = record {
   answers = send_answers known words before end h;
   places_none = none_is_placed known words false (send_tree words) before end.placed end.status end.left (send_places_none words)
       (follows_answers known words false (send_tree words) before end h);
-  wire = runs_unwired known words (send_tree words) before end (send_unwired words) h;
   serves = λ files incoming is coming can calm.
       runs_through known words false (send_tree words) before end h (ready_told files words before (send_tree words) is (send_is_ready words files before incoming can coming)) calm;
 }
+
+pub send_keeps : (known : Known) (words : List (List ℕ)) (before : Outside) (end : End) → Runs known words (send_tree words) before end
+    → Keeps command_send known words before end
+send_keeps known words before end h = record { promise = send_promise known words before end h; wire = runs_unwired known words (send_tree words) before end (send_unwired words) h }

@@ -32,10 +32,9 @@ SendsHidden known words before after =
     (after.outgoing ≡ before.outgoing) ⊎ SentHidden known words before after
 
 -- all that `receive` promises: it answers so; where it is done it printed the common items of an honest peer; however
--- it ends, what it sent hides its list; it has no digest; and it serves an honest peer
+-- it ends, what it sent hides its list; and it serves an honest peer
 pub record ReceivePromise (known : Known) (words : List (List ℕ)) (before : Outside) (end : End) : Type 0 where
   pub answers : ReceiveAnswers known words before end.placed end.status end.left
   pub finds : end.status ≡ Done → FoundCommon known words before end.placed end.left
   pub hides : SendsHidden known words before end.left
-  pub wire : end.wire ≡ None
   pub serves : ReceiveServes words before end

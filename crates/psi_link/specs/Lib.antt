@@ -1,3 +1,4 @@
+pub mod Commands
 pub mod HidingPromises
 pub mod Receive
 pub mod ReceivePromises

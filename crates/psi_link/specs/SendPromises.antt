@@ -101,9 +101,8 @@ SendServes words before end =
     (files : Files) (incoming : List ℕ) → before.files ≡ Some files → before.incoming ≡ Some incoming
     → CanServe words files incoming → IsCalm before end.left → IsDone end.status
 
--- all that `send` promises: it answers so, places no set, has no digest, and serves an honest peer
+-- all that `send` promises: it answers so, places no set, and serves an honest peer
 pub record SendPromise (known : Known) (words : List (List ℕ)) (before : Outside) (end : End) : Type 0 where
   pub answers : SendAnswers known words before end.status end.left
   pub places_none : end.placed ≡ []
-  pub wire : end.wire ≡ None
   pub serves : SendServes words before end

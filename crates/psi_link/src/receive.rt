@@ -1,4 +1,6 @@
 // The receiver's end of a session.
+ghost use Rattle.psi_walk.specs.Command.{Answers, KeepsInForm};
+ghost use Rattle.psi_link.specs.Commands.{command_receive};
 ghost use Rattle.std.specs.Prelude.{◌≡◌, ◌∷◌, [], ℕ, List, true, IfErr, IfOk, IsTrue, None, OnOk, length, map};
 ghost use Rattle.psi_spec.specs.DealFiles.{sealed};
 ghost use Rattle.psi_spec.specs.Deals.{IsReceiverDeal};
@@ -29,7 +31,18 @@ use psi_walk::{
     Outcome, Placements, open_link, outcome_of, place_items, print_shown, read_items,
     read_receiver_deal, session_status, status, write_word,
 };
+use psi_words::{CommandForms, Form, bad_word};
 use std::alloc::Global;
+
+const RECEIVE: CommandForms = CommandForms {
+    needed: &[
+        Form::Name,
+        Form::Name,
+        Form::Name,
+        Form::Output { from: 2, to: 4 },
+    ],
+    optional: &[],
+};
 
 // The receiver's end, with the record of its placement and no frame yet.
 fn new_end<'a>(
@@ -154,9 +167,9 @@ fn receive_steps<W: World>(alloc: Global, words: &Words, world: &mut W) -> Resul
 /// The words are `receive ADDR XFILE RFILE RECORD`: the address, the file of the receiver's items, its deal file, and
 /// the file of the record. Each shown item is printed with a line feed behind it.
 pub fn receive_command<W: World>(alloc: Global, words: &Words, world: &mut W) -> Outcome
-    // How it follows the tree of the command, step by step. The promise follows from it.
-    ensures steps { Runs W.known words.now (receive_tree words.now) (W.outside world.old)
-        (ended result (W.outside world.new)) }
+    // A bad word is refused at its place, and changes nothing. From words in form it follows the tree of the command,
+    // step by step. The promise follows from it.
+    ensures steps { Answers command_receive W.known words.now (W.outside world.old) (ended result (W.outside world.new)) }
 
     // What it may answer, and why, and what it took and sent then: its files are judged in order, then its items are
     // placed, the link is opened and the session is run, and then the lines are printed and the record is written.
@@ -164,7 +177,11 @@ pub fn receive_command<W: World>(alloc: Global, words: &Words, world: &mut W) ->
     // a named sender item. However it ends, what it sent hides its list among all of its size. From valid files, items
     // that have a placement and a peer whose bytes begin with a sender's stream it is done where no fault was counted
     // or the world is steady, or memory was wanting.
-    ensures promise { ReceivePromise W.known words.now (W.outside world.old) (ended result (W.outside world.new)) }
+    ensures promise { KeepsInForm command_receive W.known words.now (W.outside world.old)
+        (ended result (W.outside world.new)) }
 {
+    if let Some(at) = bad_word(words, RECEIVE) {
+        return Outcome::of(Status::BadWords { at });
+    }
     outcome_of(receive_steps(alloc, words, world))
 }

@@ -1,4 +1,6 @@
 // The sender's end of a session.
+ghost use Rattle.psi_walk.specs.Command.{Answers, KeepsInForm};
+ghost use Rattle.psi_link.specs.Commands.{command_send};
 ghost use Rattle.std.specs.Prelude.{ℕ, List, IsTrue};
 ghost use Rattle.psi_spec.specs.Deals.{IsSenderDeal};
 ghost use Rattle.psi_sender.specs.Laws.{sender_dialogue};
@@ -13,7 +15,13 @@ use psi_items::Items;
 use psi_sender::{SenderCore, run_sender};
 use psi_texts::Status;
 use psi_walk::{Outcome, open_link, outcome_of, read_items, read_sender_deal, session_status};
+use psi_words::{CommandForms, Form, bad_word};
 use std::alloc::Global;
+
+const SEND: CommandForms = CommandForms {
+    needed: &[Form::Name, Form::Name, Form::Name],
+    optional: &[],
+};
 
 // Serves the receiver at the other end of the link.
 fn serve<W: World>(
@@ -52,15 +60,19 @@ fn send_steps<W: World>(alloc: Global, words: &Words, world: &mut W) -> Result<O
 /// The words are `send ADDR YFILE SFILE`: the address, the file of the sender's items and its deal file. Nothing is
 /// printed.
 pub fn send_command<W: World>(alloc: Global, words: &Words, world: &mut W) -> Outcome
-    // How it follows the tree of the command, step by step. The promise follows from it.
-    ensures steps { Runs W.known words.now (send_tree words.now) (W.outside world.old)
-        (ended result (W.outside world.new)) }
+    // A bad word is refused at its place, and changes nothing. From words in form it follows the tree of the command,
+    // step by step. The promise follows from it.
+    ensures steps { Answers command_send W.known words.now (W.outside world.old) (ended result (W.outside world.new)) }
 
     // What it may answer, and why, and what it took and sent then: its files are judged in order, then the link is
     // opened, and then the session is run. Where it is done it took a receiver's stream, and sent the sender's for it.
     // From valid files and a peer whose bytes begin with a receiver's stream it is done where no fault was counted or
     // the world is steady, or memory was wanting.
-    ensures promise { SendPromise W.known words.now (W.outside world.old) (ended result (W.outside world.new)) }
+    ensures promise { KeepsInForm command_send W.known words.now (W.outside world.old)
+        (ended result (W.outside world.new)) }
 {
+    if let Some(at) = bad_word(words, SEND) {
+        return Outcome::of(Status::BadWords { at });
+    }
     outcome_of(send_steps(alloc, words, world))
 }

@@ -36,6 +36,8 @@ use Rattle.psi_walk.proofs.Placings.{is_placement, hides_list}
 use Rattle.psi_walk.proofs.Left.{follows_leaves}
 use Rattle.psi_walk.proofs.Through.{runs_through}
 use Rattle.psi_walk.proofs.Wired.{runs_wired}
+use Rattle.psi_walk.specs.Command.{Keeps}
+use Rattle.psi_local.specs.Commands.{command_local}
 
 -- ---- the named deals
 
@@ -251,7 +253,7 @@ local_answers known words before end h =
     of_first known words before end.placed end.status end.left
     (answered_items known words 1 (λ xs. reads_items 2 (λ ys. local_set words xs ys)) before end.placed end.status end.left (follows_answers known words false (local_tree words) before end h))
 
-pub local_promise : (known : Known) (words : List (List ℕ)) (before : Outside) (end : End) → Runs known words (local_tree words) before end → LocalPromise known words before end
+local_promise : (known : Known) (words : List (List ℕ)) (before : Outside) (end : End) → Runs known words (local_tree words) before end → LocalPromise known words before end
 unfolding Answered
 local_promise known words before end h =
     let answered = local_answers known words before end h in
@@ -259,7 +261,10 @@ local_promise known words before end h =
       answers = answered.0;
       silent = answered.1;
       shows = λ done. local_leaves known words before end (follows_leaves known words false (local_tree words) before end done h);
-      wire = runs_wired known words (local_tree words) before end h;
       completes = λ files is can calm.
           runs_through known words false (local_tree words) before end h (ready_told files words before (local_tree words) is (local_is_ready words files before can)) calm;
     }
+
+pub local_keeps : (known : Known) (words : List (List ℕ)) (before : Outside) (end : End) → Runs known words (local_tree words) before end
+    → Keeps command_local known words before end
+local_keeps known words before end h = record { promise = local_promise known words before end h; wire = runs_wired known words (local_tree words) before end h }

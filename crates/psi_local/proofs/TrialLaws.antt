@@ -19,6 +19,8 @@ use Rattle.psi_walk.proofs.Placings.{is_placement}
 use Rattle.psi_walk.proofs.Left.{follows_leaves}
 use Rattle.psi_walk.proofs.Through.{runs_through}
 use Rattle.psi_walk.proofs.Wired.{runs_wired}
+use Rattle.psi_walk.specs.Command.{Keeps}
+use Rattle.psi_local.specs.Commands.{command_trial}
 
 -- ---- what a run that is done left
 
@@ -80,13 +82,16 @@ trial_is_ready words contents before slots is = ((slots, is), λ chosen placed. 
 
 -- ---- all that `trial` promises
 
-pub trial_promise : (known : Known) (words : List (List ℕ)) (before : Outside) (end : End) → Runs known words (trial_tree words) before end → TrialPromise words before end
+trial_promise : (known : Known) (words : List (List ℕ)) (before : Outside) (end : End) → Runs known words (trial_tree words) before end → TrialPromise words before end
 trial_promise known words before end h =
     let a = follows_answers known words false (trial_tree words) before end h in
     record {
       answers = of_set known words before end.placed end.status end.left a;
       silent = is_silent known words before end.placed end.status end.left a;
       prints = λ done. trial_leaves known words before end (follows_leaves known words false (trial_tree words) before end done h);
-      wire = runs_wired known words (trial_tree words) before end h;
       completes = λ slots is calm. runs_through known words false (trial_tree words) before end h (trial_is_ready words (told before.files words) before slots is) calm;
     }
+
+pub trial_keeps : (known : Known) (words : List (List ℕ)) (before : Outside) (end : End) → Runs known words (trial_tree words) before end
+    → Keeps command_trial known words before end
+trial_keeps known words before end h = record { promise = trial_promise known words before end h; wire = runs_wired known words (trial_tree words) before end h }

@@ -23,7 +23,7 @@ use Rattle.psi_base.specs.Outside.{Known, Outside}
 use Rattle.psi_receiver.specs.Laws.{own_stream}
 use Rattle.psi_words.specs.Words.{seed_of, word_at}
 use Rattle.psi_walk.specs.Placing.{placing_of}
-use Rattle.psi_local.specs.Transcript.{IsPlayed, receiver_size, sender_size}
+use Rattle.psi_local.specs.Transcript.{IsPlayed, receiver_stream_size, sender_stream_size}
 use Rattle.psi_walk.specs.Tree.{says, closed, ends, carrying}
 use Rattle.psi_local.specs.Trial.{measured, summary_text, trial_receiver, trial_rest, trial_sender, trial_session, trial_set, trial_setup, trial_summary, trial_text, trial_to_receiver, trial_to_sender}
 use Rattle.psi_walk.specs.Walk.{Places, Runs}
@@ -67,14 +67,14 @@ trial_finds words xs ys slots placement =
 -- ---- how long the streams are
 
 length-own_stream : (deal : ReceiverDeal) (placed : List Placed) → length deal.id ≡ 16 → length deal.seeds ≡ 512 → length placed ≤ limit_items
-    → length (own_stream deal placed) ≡ receiver_size deal (length placed)
+    → length (own_stream deal placed) ≡ receiver_stream_size deal (length placed)
 length-own_stream deal placed id seeds few =
     let sets = dealt_sets deal (rows_for deal.stash (length placed)) in
     receiver_streams_have_sizes deal.stash deal.id deal.session (length placed) (masked_columns (words_of deal placed) sets) (receiver_stream deal placed sets) id
     (receiver_streams_are_well_formed deal placed sets few (dealt_sets_are deal (rows_for deal.stash (length placed)) seeds))
 
 length-peer_stream : (receiver : ReceiverDeal) (sender : SenderDeal) (count : ℕ) (sent ys : List (List ℕ)) → ArePair receiver sender → length sender.id ≡ 16 → sender.tag_length ≤ 16
-    → length ys ≤ limit_items → length (sender_stream sender count sent ys) ≡ sender_size receiver (length ys)
+    → length ys ≤ limit_items → length (sender_stream sender count sent ys) ≡ sender_stream_size receiver (length ys)
 length-peer_stream receiver sender count sent ys pair id short few =
     sender_streams_have_sizes sender.stash sender.id sender.session sender.tag_length (length ys) (tag_lists sender.stash (sender_side sender count sent) ys)
     (sender_stream sender count sent ys) id (sender_streams_are_well_formed sender count sent ys few short)
@@ -112,9 +112,9 @@ is_summary words xs slots ys front played few few' placement is =
     length-placed_of xs slots (length-placement receiver.stash receiver.key (bins_for (length xs)) xs slots placement) in
     let few_placed : length (placed_of xs slots) ≤ limit_items = omega (arith, long, few) in
     let rows : rows_for receiver.stash (length xs) ≡ rows_for usual_stash (length xs) = ap (λ (stash : ℕ). rows_for stash (length xs)) sizes.stash in
-    let to_sender : receiver_size receiver (length xs) ≡ length (trial_to_sender words xs slots) =
-    ap (receiver_size receiver) (sym long) ∙ sym (length-own_stream receiver (placed_of xs slots) sizes.id sizes.seeds few_placed) in
-    let to_receiver : sender_size receiver (length ys) ≡ length (trial_to_receiver words xs slots ys) =
+    let to_sender : receiver_stream_size receiver (length xs) ≡ length (trial_to_sender words xs slots) =
+    ap (receiver_stream_size receiver) (sym long) ∙ sym (length-own_stream receiver (placed_of xs slots) sizes.id sizes.seeds few_placed) in
+    let to_receiver : sender_stream_size receiver (length ys) ≡ length (trial_to_receiver words xs slots ys) =
     sym (length-peer_stream receiver sender (length xs) (dealt_masked receiver (placed_of xs slots)) ys (trial_pair words) sizes.peer_id (omega (arith, sizes.tag_length)) few') in
     let shown_count : count_by (λ is. is) played.receiver.shown ≡ length (shown (trial_setup words xs slots) ys) =
     count_marked played.receiver.shown xs (length-played receiver sender xs slots ys front played placement is)

@@ -1,3 +1,4 @@
+pub mod Commands
 pub mod Local
 pub mod LocalPromises
 pub mod Make

@@ -114,11 +114,10 @@ LocalCompletes words before end =
 
 -- ---- all of it
 
--- all that `local` promises: it answers so, sends and takes nothing, shows the common items where it is done, has a
--- digest only then, and completes
+-- all that `local` promises: it answers so, sends and takes nothing, shows the common items where it is done, and
+-- completes
 pub record LocalPromise (known : Known) (words : List (List ℕ)) (before : Outside) (end : End) : Type 0 where
   pub answers : LocalAnswers known words before end.placed end.status
   pub silent : IsSilent before end.left
   pub shows : end.status ≡ Done → PrintedShown known words before end
-  pub wire : (end.wire ≡ None) ⊎ (end.status ≡ Done)
   pub completes : LocalCompletes words before end

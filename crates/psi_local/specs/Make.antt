@@ -24,4 +24,3 @@ WroteMade words before after =
 -- all that `make` promises
 pub record MakePromise (words : List (List ℕ)) (before : Outside) (end : End) : Type 0 where
   pub writes : end.status ≡ Done → WroteMade words before end.left
-  pub wire : end.wire ≡ None

@@ -31,12 +31,12 @@ pub record WentOn (first now : SessionTranscript) (bytes : List ℕ) : Type 0 wh
   pub log : log_of now.log ≡ option_map (λ front. front ++ bytes) (log_of first.log)
 
 -- the bytes of the stream of a receiver of so many items
-abbrev pub receiver_size : ReceiverDeal → ℕ → ℕ
-receiver_size deal own = 39 + 512 * (7 + column_bytes (rows_for deal.stash own))
+abbrev pub receiver_stream_size : ReceiverDeal → ℕ → ℕ
+receiver_stream_size deal own = 39 + 512 * (7 + column_bytes (rows_for deal.stash own))
 
 -- the bytes of the stream of a sender of so many, over the other half of the deal
-abbrev pub sender_size : ReceiverDeal → ℕ → ℕ
-sender_size deal peer = 34 + (3 + deal.stash) * (10 * blocks_for peer + deal.tag_length * peer)
+abbrev pub sender_stream_size : ReceiverDeal → ℕ → ℕ
+sender_stream_size deal peer = 34 + (3 + deal.stash) * (10 * blocks_for peer + deal.tag_length * peer)
 
 -- the session of two deals, of the receiver's items in their slots and the sender's items was run: the marks are those
 -- of the items that are hit in the sender's lists, and the transcript took all its bytes, behind the front of a record

@@ -13,7 +13,7 @@ use Rattle.psi_items.specs.Made.{made_items}
 use Rattle.psi_receiver.specs.Laws.{own_stream}
 use Rattle.psi_words.specs.Words.{number_of, seed_of, word_at}
 use Rattle.psi_walk.specs.Placing.{placing_of}
-use Rattle.psi_local.specs.Transcript.{receiver_size, sender_size}
+use Rattle.psi_local.specs.Transcript.{receiver_stream_size, sender_stream_size}
 use Rattle.psi_walk.specs.Tree.{says, Tree, places, ends}
 use Rattle.psi_local.specs.declared.trial.Summary.{Summary}
 
@@ -61,8 +61,8 @@ measured deal own peer marks = record {
   items = own;
   bins = bins_for own;
   rows = rows_for deal.stash own;
-  to_sender = receiver_size deal own;
-  to_receiver = sender_size deal peer;
+  to_sender = receiver_stream_size deal own;
+  to_receiver = sender_stream_size deal peer;
   shown = count_by (λ is. is) marks;
 }
 

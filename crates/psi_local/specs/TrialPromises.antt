@@ -54,11 +54,9 @@ TrialCompletes words before end =
 
 -- ---- all of it
 
--- all that `trial` promises: it answers so, sends and takes nothing, prints where it is done, has a digest only then,
--- and completes
+-- all that `trial` promises: it answers so, sends and takes nothing, prints where it is done, and completes
 pub record TrialPromise (words : List (List ℕ)) (before : Outside) (end : End) : Type 0 where
   pub answers : TrialAnswers words end.placed end.status
   pub silent : IsSilent before end.left
   pub prints : end.status ≡ Done → RanTrial words before end
-  pub wire : (end.wire ≡ None) ⊎ (end.status ≡ Done)
   pub completes : TrialCompletes words before end

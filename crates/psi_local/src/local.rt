@@ -1,12 +1,13 @@
 // Both ends of a session in one run.
+ghost use Rattle.psi_words.specs.Words.{bad_word};
+ghost use Rattle.psi_walk.specs.Command.{Answers, KeepsInForm};
+ghost use Rattle.psi_local.specs.Commands.{command_local, local_forms};
 ghost use Rattle.std.specs.Prelude.{◌≡◌, ◌∷◌, Bool, List, ℕ, IfOk, Some, None, length};
 ghost use Rattle.sha2.specs.Hashers.{Holds256};
 ghost use Rattle.sha2.specs.Sha256.{sha256};
 ghost use Rattle.psi_spec.specs.Deals.{ArePair, IsReceiverDeal, IsSenderDeal};
 ghost use Rattle.psi_spec.specs.Hits.{marked};
 ghost use Rattle.psi_spec.specs.Texts.{lines_text};
-ghost use Rattle.psi_words.specs.Words.{bad_word};
-ghost use Rattle.psi_words.specs.Form.{command_of};
 ghost use Rattle.psi_local.specs.Local.{local_receiver, local_sender, local_set, local_tree};
 ghost use Rattle.psi_local.specs.Transcript.{writes};
 ghost use Rattle.psi_walk.specs.Tree.{closed, end_of, ended, ends, says};
@@ -21,14 +22,24 @@ use psi_items::Items;
 use psi_log::{Recorder, write_record};
 use psi_texts::Status;
 use psi_walk::{Outcome, outcome_of, place_items, print_shown, read_items, write_word};
-use psi_words::{Command, seed_of, session_of, sizes_of, word_at};
+use psi_words::{CommandForms, Form, bad_word, seed_of, session_of, sizes_of, word_at};
 use std::alloc::Global;
+
+const LOCAL: CommandForms = CommandForms {
+    needed: &[
+        Form::Name,
+        Form::Name,
+        Form::Seed,
+        Form::Session,
+        Form::Sizes,
+    ],
+    optional: &[Form::Output { from: 1, to: 3 }],
+};
 
 // The pair of deals that the words name. Words in form name no sizes that deals can't have.
 #[tactic(auto, unfolding(crate::specs::Local::local_receiver, crate::specs::Local::local_sender))]
 fn local_deals(alloc: Global, words: &Words) -> Result<(ReceiverDeal, SenderDeal), NoMemory>
-    requires fit { bad_word words.now ≡ None }
-    requires named { command_of words.now ≡ Some Command.Local }
+    requires fit { bad_word local_forms words.now ≡ None }
     ensures receiver { IfOk result (λ deals. deals.0 ≡ local_receiver words.now) }
     ensures sender { IfOk result (λ deals. deals.1 ≡ local_sender words.now) }
     ensures sizes { IfOk result (λ deals. IsReceiverDeal deals.0 × IsSenderDeal deals.1) }
@@ -79,8 +90,7 @@ fn place_and_play<W: World>(
     y: &Items,
     world: &mut W,
 ) -> Result<Outcome, Status>
-    requires fit { bad_word words.now ≡ None }
-    requires named { command_of words.now ≡ Some Command.Local }
+    requires fit { bad_word local_forms words.now ≡ None }
     ensures { Runs W.known words.now (local_set words.now x.now y.now) (W.outside world.old)
         (end_of result (W.outside world.new)) }
 {
@@ -97,8 +107,7 @@ fn place_and_play<W: World>(
 // What `local` does. A refusal before there is an outcome is answered as an error.
 #[tactic(auto, using(psi_walk::proofs::Walks::walk))]
 fn local_steps<W: World>(alloc: Global, words: &Words, world: &mut W) -> Result<Outcome, Status>
-    requires fit { bad_word words.now ≡ None }
-    requires named { command_of words.now ≡ Some Command.Local }
+    requires fit { bad_word local_forms words.now ≡ None }
     ensures { Runs W.known words.now (local_tree words.now) (W.outside world.old)
         (end_of result (W.outside world.new)) }
 {
@@ -115,17 +124,19 @@ fn local_steps<W: World>(alloc: Global, words: &Words, world: &mut W) -> Result<
 /// stash rows behind it, and the file of the record, which is neither list. The outcome's `wire` is the SHA-256 of all
 /// bytes of the session, with or without a record.
 pub fn local_command<W: World>(alloc: Global, words: &Words, world: &mut W) -> Outcome
-    requires fit { bad_word words.now ≡ None }
-    requires named { command_of words.now ≡ Some Command.Local }
-    // How it follows the tree of the command, step by step. The promise follows from it.
-    ensures steps { Runs W.known words.now (local_tree words.now) (W.outside world.old)
-        (ended result (W.outside world.new)) }
+    // A bad word is refused at its place, and changes nothing. From words in form it follows the tree of the command,
+    // step by step. The promise follows from it.
+    ensures steps { Answers command_local W.known words.now (W.outside world.old) (ended result (W.outside world.new)) }
 
     // What it may answer, and why: its files are judged in order, and then the receiver's items are placed, the lines
     // printed and the record written. Where it is done it printed every common item, and each other printed item shares
     // its tag with a named sender item. It sends and takes nothing. From valid lists and items that have a placement it
     // is done where no fault was counted or the world is steady, or memory was wanting.
-    ensures promise { LocalPromise W.known words.now (W.outside world.old) (ended result (W.outside world.new)) }
+    ensures promise { KeepsInForm command_local W.known words.now (W.outside world.old)
+        (ended result (W.outside world.new)) }
 {
+    if let Some(at) = bad_word(words, LOCAL) {
+        return Outcome::of(Status::BadWords { at });
+    }
     outcome_of(local_steps(alloc, words, world))
 }

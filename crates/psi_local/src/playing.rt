@@ -4,7 +4,7 @@ ghost use Rattle.psi_spec.specs.Deals.{ArePair, IsReceiverDeal, IsSenderDeal};
 ghost use Rattle.psi_spec.specs.Formulas.{item_digest};
 ghost use Rattle.psi_spec.specs.Limits.{bins_for, limit_items};
 ghost use Rattle.psi_spec.specs.Placement.{IsPlacementOf};
-ghost use Rattle.psi_local.specs.Transcript.{IsPlayed, log_of, receiver_size, sender_size};
+ghost use Rattle.psi_local.specs.Transcript.{IsPlayed, log_of, receiver_stream_size, sender_stream_size};
 ghost use Rattle.psi_walk.specs.Tree.{carrying, closed, ended};
 ghost use Rattle.psi_base.specs.Outside.{Outside};
 
@@ -36,7 +36,7 @@ pub struct PlayedSession<'a> {
 pub fn receiver_length(deal: &ReceiverDeal, own: u32) -> u64
     requires deal { IsReceiverDeal deal.now }
     requires own { own ≤ limit_items }
-    ensures { result ≡ receiver_size deal.now own }
+    ensures { result ≡ receiver_stream_size deal.now own }
 {
     39 + 512 * (7 + u64::from(rows(own, deal.stash()).div_ceil(8)))
 }
@@ -45,7 +45,7 @@ pub fn receiver_length(deal: &ReceiverDeal, own: u32) -> u64
 /// each of which has 10 before them.
 pub fn sender_length(deal: &ReceiverDeal, peer: u32) -> u64
     requires { IsReceiverDeal deal.now }
-    ensures { result ≡ sender_size deal.now peer }
+    ensures { result ≡ sender_stream_size deal.now peer }
 {
     let blocks = 10 * u64::from(peer.div_ceil(BLOCK_TAGS));
     let tags = u64::from(deal.width()) * u64::from(peer);
@@ -56,7 +56,7 @@ pub fn sender_length(deal: &ReceiverDeal, peer: u32) -> u64
 pub fn session_length(deal: &ReceiverDeal, own: u32, peer: u32) -> u64
     requires deal { IsReceiverDeal deal.now }
     requires own { own ≤ limit_items }
-    ensures { result ≡ receiver_size deal.now own + sender_size deal.now peer }
+    ensures { result ≡ receiver_stream_size deal.now own + sender_stream_size deal.now peer }
 {
     receiver_length(deal, own) + sender_length(deal, peer)
 }

@@ -1,4 +1,7 @@
 // Both ends of a session on made lists, in one run.
+ghost use Rattle.psi_words.specs.Words.{bad_word};
+ghost use Rattle.psi_walk.specs.Command.{Answers, KeepsInForm};
+ghost use Rattle.psi_local.specs.Commands.{command_trial, trial_forms};
 ghost use Rattle.std.specs.Prelude.{◌≡◌, ◌≤◌, ◌++◌, ◌∷◌, [], List, ℕ, IfOk, None, OnOk, Some, count_by};
 ghost use Rattle.sha2.specs.Hashers.{Holds256};
 ghost use Rattle.sha2.specs.Sha256.{sha256};
@@ -6,8 +9,6 @@ ghost use Rattle.psi_spec.specs.Deals.{ArePair, IsReceiverDeal, IsSenderDeal};
 ghost use Rattle.psi_spec.specs.Limits.{limit_items};
 ghost use Rattle.psi_items.specs.Made.{made_items};
 ghost use Rattle.psi_items.specs.Making.{is_second};
-ghost use Rattle.psi_words.specs.Words.{bad_word};
-ghost use Rattle.psi_words.specs.Form.{command_of};
 ghost use Rattle.psi_walk.specs.Tree.{closed, end_of, ended, ends, says};
 ghost use Rattle.psi_local.specs.Trial.{measured, numbered, summary_text, trial_receiver, trial_sender, trial_set, trial_tree};
 ghost use Rattle.psi_walk.specs.Walk.{Runs};
@@ -20,8 +21,13 @@ use psi_deal::{ReceiverDeal, SenderDeal, deal};
 use psi_items::{Items, MadeFile, make_file};
 use psi_texts::Status;
 use psi_walk::{Outcome, outcome_of, place_items, print_text};
-use psi_words::{Command, counts_of, seed_of, word_at};
+use psi_words::{CommandForms, Form, bad_word, counts_of, seed_of, word_at};
 use std::alloc::{AllocError, Global};
+
+const TRIAL: CommandForms = CommandForms {
+    needed: &[Form::Count, Form::Shared, Form::Seed],
+    optional: &[],
+};
 
 /// How large a session was.
 #[derive(Debug, Drop)]
@@ -56,8 +62,7 @@ fn made_items(alloc: Global, file: MadeFile, count: u32, shared: u32) -> Result<
 // The pair of deals of the seed that the words name.
 #[tactic(auto, unfolding(crate::specs::Trial::trial_receiver, crate::specs::Trial::trial_sender))]
 fn trial_deals(alloc: Global, words: &Words) -> Result<(ReceiverDeal, SenderDeal), NoMemory>
-    requires fit { bad_word words.now ≡ None }
-    requires named { command_of words.now ≡ Some Command.Trial }
+    requires fit { bad_word trial_forms words.now ≡ None }
     ensures receiver { IfOk result (λ deals. deals.0 ≡ trial_receiver words.now) }
     ensures sender { IfOk result (λ deals. deals.1 ≡ trial_sender words.now) }
     ensures sizes { IfOk result (λ deals. IsReceiverDeal deals.0 × IsSenderDeal deals.1) }
@@ -138,8 +143,7 @@ fn place_and_try<W: World>(
     y: &Items,
     world: &mut W,
 ) -> Result<Outcome, Status>
-    requires fit { bad_word words.now ≡ None }
-    requires named { command_of words.now ≡ Some Command.Trial }
+    requires fit { bad_word trial_forms words.now ≡ None }
     ensures { Runs W.known words.now (trial_set words.now x.now y.now) (W.outside world.old)
         (end_of result (W.outside world.new)) }
 {
@@ -157,8 +161,7 @@ fn place_and_try<W: World>(
 // What `trial` does. A refusal before there is an outcome is answered as an error.
 #[tactic(auto, using(psi_walk::proofs::Walks::walk), unfolding(crate::specs::Trial::trial_items))]
 fn trial_steps<W: World>(alloc: Global, words: &Words, world: &mut W) -> Result<Outcome, Status>
-    requires fit { bad_word words.now ≡ None }
-    requires named { command_of words.now ≡ Some Command.Trial }
+    requires fit { bad_word trial_forms words.now ≡ None }
     ensures { Runs W.known words.now (trial_tree words.now) (W.outside world.old)
         (end_of result (W.outside world.new)) }
 {
@@ -177,16 +180,18 @@ fn trial_steps<W: World>(alloc: Global, words: &Words, world: &mut W) -> Result<
 /// receiver's and of the sender's stream, and the items that are shown. The outcome's `wire` is the SHA-256 of all
 /// bytes of the session.
 pub fn trial_command<W: World>(alloc: Global, words: &Words, world: &mut W) -> Outcome
-    requires fit { bad_word words.now ≡ None }
-    requires named { command_of words.now ≡ Some Command.Trial }
-    // How it follows the tree of the command, step by step. The promise follows from it.
-    ensures steps { Runs W.known words.now (trial_tree words.now) (W.outside world.old)
-        (ended result (W.outside world.new)) }
+    // A bad word is refused at its place, and changes nothing. From words in form it follows the tree of the command,
+    // step by step. The promise follows from it.
+    ensures steps { Answers command_trial W.known words.now (W.outside world.old) (ended result (W.outside world.new)) }
 
     // What it may answer, and why: the first made list is placed, and then the text is printed. Where it is done it
     // printed how large the session was and how many items are shown. It sends and takes nothing. From a first list
     // that has a placement it is done where no fault was counted or the world is steady, or memory was wanting.
-    ensures promise { TrialPromise words.now (W.outside world.old) (ended result (W.outside world.new)) }
+    ensures promise { KeepsInForm command_trial W.known words.now (W.outside world.old)
+        (ended result (W.outside world.new)) }
 {
+    if let Some(at) = bad_word(words, TRIAL) {
+        return Outcome::of(Status::BadWords { at });
+    }
     outcome_of(trial_steps(alloc, words, world))
 }

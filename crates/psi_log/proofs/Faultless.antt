@@ -9,7 +9,7 @@ use Rattle.psi_spec.specs.Records.{LoggedSession, IsLogged, has_record_magic, ha
 use Rattle.psi_spec.proofs.Records.{IsRecord, last_at, record_again, record_found, record_has_parts, wire_at}
 use Rattle.psi_log.specs.declared.errors.BadRecord.{BadRecord}
 use Rattle.psi_log.specs.declared.errors.BadRecord.TheVariants.{Magic, Version, Short, Seal, Trailing}
-use Rattle.psi_log.specs.BadRecords.{Answers, bad_frame, bad_record}
+use Rattle.psi_log.specs.BadRecords.{IsJudged, bad_frame, bad_record}
 
 -- where the seal is to begin
 abbrev end_at : List ℕ → ℕ
@@ -113,15 +113,15 @@ none_from_parts bytes h =
 
 -- ---- what a reader answers
 
-pub answer_is_found : (bytes : List ℕ) (result : Result LoggedSession BadRecord) → AreBytes bytes → Answers (bad_record bytes) (logged_of bytes) result
+pub answer_is_found : (bytes : List ℕ) (result : Result LoggedSession BadRecord) → AreBytes bytes → IsJudged (bad_record bytes) (logged_of bytes) result
     → IfOk result (λ session. IsLogged session × (bytes ≡ record_file session.slots session.wire))
 answer_is_found bytes (Ok session) small h =
     subst (λ (s : LoggedSession). IsLogged s × (bytes ≡ record_file s.slots s.wire)) (sym h.1) (record_found bytes small (parts_from_none bytes h.0))
 answer_is_found bytes (Err bad) small h = tt
 
-pub answer_is_only : (bytes : List ℕ) (result : Result LoggedSession BadRecord) (session : LoggedSession) → Answers (bad_record bytes) (logged_of bytes) result
-    → IsLogged session → bytes ≡ record_file session.slots session.wire → Answers None session result
+pub answer_is_only : (bytes : List ℕ) (result : Result LoggedSession BadRecord) (session : LoggedSession) → IsJudged (bad_record bytes) (logged_of bytes) result
+    → IsLogged session → bytes ≡ record_file session.slots session.wire → IsJudged None session result
 answer_is_only bytes result session h is e =
     let none : bad_record bytes ≡ None = ap bad_record e ∙ none_from_parts (record_file session.slots session.wire) (record_has_parts session is) in
     let same : logged_of bytes ≡ session = ap logged_of e ∙ record_again session is in
-    subst (λ (bad : Option BadRecord). Answers bad session result) none (subst (λ (s : LoggedSession). Answers (bad_record bytes) s result) same h)
+    subst (λ (bad : Option BadRecord). IsJudged bad session result) none (subst (λ (s : LoggedSession). IsJudged (bad_record bytes) s result) same h)

@@ -43,7 +43,7 @@ bad_record bytes =
 
 -- what is answered: the value where nothing is bad, and else what is bad first; want of memory may come only where
 -- nothing is bad
-abbrev pub Answers : {V : Type 0} → Option BadRecord → V → Result V BadRecord → Type 0
-Answers bad value (Ok answered) = (bad ≡ None) × (answered ≡ value)
-Answers bad value (Err NoMemory) = bad ≡ None
-Answers bad value (Err refusal) = bad ≡ Some refusal
+abbrev pub IsJudged : {V : Type 0} → Option BadRecord → V → Result V BadRecord → Type 0
+IsJudged bad value (Ok answered) = (bad ≡ None) × (answered ≡ value)
+IsJudged bad value (Err NoMemory) = bad ≡ None
+IsJudged bad value (Err refusal) = bad ≡ Some refusal

@@ -3,7 +3,7 @@ ghost use Rattle.std.specs.Prelude.{◌≡◌, ◌+◌, ◌*◌, ◌≤◌, leng
 ghost use Rattle.psi_cuckoo.specs.Table.{slot_of};
 ghost use Rattle.psi_spec.specs.Limits.{record_limit};
 ghost use Rattle.psi_spec.specs.Records.{LoggedSession as Logged, IsLogged, logged_of, record_file, slots_of};
-ghost use Rattle.psi_log.specs.BadRecords.{Answers, bad_record};
+ghost use Rattle.psi_log.specs.BadRecords.{IsJudged, bad_record};
 
 use crate::errors::BadRecord;
 use crate::judging::judge;
@@ -19,10 +19,10 @@ use std::alloc::{AllocError, Global};
 /// and memory for the slots is wanting.
 pub fn read_record<'a>(alloc: Global, bytes: &'a [u8]) -> Result<LoggedSession<'a>, BadRecord>
     requires { length bytes.now ≤ record_limit }
-    ensures exact { Answers (bad_record bytes.now) (logged_of bytes.now) result }
+    ensures exact { IsJudged (bad_record bytes.now) (logged_of bytes.now) result }
     ensures found { IfOk result (λ session. IsLogged session × (bytes.now ≡ record_file session.slots session.wire)) }
     ensures only { (session : Logged) → IsLogged session → bytes.now ≡ record_file session.slots session.wire
-        → Answers None session result }
+        → IsJudged None session result }
 {
     if let Some(bad) = judge(bytes) {
         return Err(bad);

@@ -8,15 +8,15 @@ use Rattle.psi_spec.proofs.Packing.{bit_of-row_of}
 use Rattle.psi_spec.proofs.ColumnSets.{length-row_of_words, length-masked_columns, get_or-masked_columns}
 
 -- the order in which a column is made does not matter
-pub masked_by : (a0 a1 : List ℕ) (words : List (List ℕ)) (c : ℕ) → xor (xor (row_of words c) a0) a1 ≡ masked a0 a1 words c
-masked_by a0 a1 words c = xor-assoc (row_of words c) a0 a1 ∙ xor-comm (row_of words c) (xor a0 a1)
+pub masked_by : (zeros ones : List ℕ) (words : List (List ℕ)) (c : ℕ) → xor (xor (row_of words c) zeros) ones ≡ masked zeros ones words c
+masked_by zeros ones words c = xor-assoc (row_of words c) zeros ones ∙ xor-comm (row_of words c) (xor zeros ones)
 
-pub bit_of-masked : (a0 a1 : List ℕ) (words : List (List ℕ)) (c j : ℕ) → length a0 ≡ column_bytes (length words) → length a1 ≡ column_bytes (length words)
-    → bit_of (masked a0 a1 words c) j ≡ (bit_of a0 j + bit_of a1 j + bit_of (get_or words j []) c) % 2
-bit_of-masked a0 a1 words c j l m =
-    let both : length (xor a0 a1) ≡ column_bytes (length words) = length-xor (column_bytes (length words)) a0 a1 l m in
-    let outer = bit_of-xor (xor a0 a1) (row_of words c) j (both ∙ sym (length-row_of_words words c)) in
-    let inner = bit_of-xor a0 a1 j (l ∙ sym m) in
+pub bit_of-masked : (zeros ones : List ℕ) (words : List (List ℕ)) (c j : ℕ) → length zeros ≡ column_bytes (length words) → length ones ≡ column_bytes (length words)
+    → bit_of (masked zeros ones words c) j ≡ (bit_of zeros j + bit_of ones j + bit_of (get_or words j []) c) % 2
+bit_of-masked zeros ones words c j l m =
+    let both : length (xor zeros ones) ≡ column_bytes (length words) = length-xor (column_bytes (length words)) zeros ones l m in
+    let outer = bit_of-xor (xor zeros ones) (row_of words c) j (both ∙ sym (length-row_of_words words c)) in
+    let inner = bit_of-xor zeros ones j (l ∙ sym m) in
     let code = bit_of-row_of words c j in
     omega arith
 

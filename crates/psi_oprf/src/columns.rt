@@ -26,30 +26,30 @@ pub fn xor_columns(columns: &mut Columns, by: &Columns)
 }
 
 /// Makes `out` the columns that the receiver sends: bit j of column c is the exclusive or of that
-/// bit of `a0`, of that bit of `a1` and of bit c of row j of `codes`. All have the same number of
-/// rows, and `a0` and `a1` are clean.
+/// bit of `zeros`, of that bit of `ones` and of bit c of row j of `codes`. All have the same number of
+/// rows, and `zeros` and `ones` are clean.
 ///
 /// A sender that opens such columns has rows by which it can evaluate the receiver's items (Ishai,
 /// Kilian, Nissim and Petrank, CRYPTO 2003; Kolesnikov, Kumaresan, Rosulek and Trieu, CCS 2016).
-pub fn mask(a0: &Columns, a1: &Columns, codes: &Rows, out: &mut Columns)
-    requires a1 { a1.now.rows ≡ a0.now.rows }
-    requires codes { length codes.now ≡ a0.now.rows }
-    requires out { out.old.rows ≡ a0.now.rows }
-    requires a0_clean { IsCleanMatrix a0.now }
-    requires a1_clean { IsCleanMatrix a1.now }
+pub fn mask(zeros: &Columns, ones: &Columns, codes: &Rows, out: &mut Columns)
+    requires ones { ones.now.rows ≡ zeros.now.rows }
+    requires codes { length codes.now ≡ zeros.now.rows }
+    requires out { out.old.rows ≡ zeros.now.rows }
+    requires zeros_clean { IsCleanMatrix zeros.now }
+    requires ones_clean { IsCleanMatrix ones.now }
     ensures columns { out.new ≡ record {
       rows = out.old.rows;
-      columns = masked_columns codes.now (record { zeros = a0.now.columns; ones = a1.now.columns });
+      columns = masked_columns codes.now (record { zeros = zeros.now.columns; ones = ones.now.columns });
     } }
     ensures bits { (c j : ℕ) → c < 512 → j < out.old.rows →
         bit_of (column_of out.new c) j
-        ≡ (bit_of (column_of a0.now c) j + bit_of (column_of a1.now c) j
+        ≡ (bit_of (column_of zeros.now c) j + bit_of (column_of ones.now c) j
         + bit_of (slice_index_or codes.now j []) c) % 2 }
     ensures clean { IsCleanMatrix out.new }
 {
     flip_back(codes, out);
-    xor_columns(out, a0);
-    xor_columns(out, a1);
+    xor_columns(out, zeros);
+    xor_columns(out, ones);
 }
 
 /// Makes column `c`, counted from 0 and below 512, the sender's: where bit c of the choice word is

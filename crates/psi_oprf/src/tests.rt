@@ -79,23 +79,23 @@ fn what_choice_and_code_share_is_flipped(rt: HostRuntime) {
 
 #[test]
 fn a_masked_column_is_opened(rt: HostRuntime) -> Result<(), NoMemory> {
-    let mut a0 = Columns::zero(rt.alloc(), 9)?;
-    let mut a1 = Columns::zero(rt.alloc(), 9)?;
+    let mut zeros = Columns::zero(rt.alloc(), 9)?;
+    let mut ones = Columns::zero(rt.alloc(), 9)?;
     let mut out = Columns::zero(rt.alloc(), 9)?;
     let mut codes = Rows::with_rows(rt.alloc(), 9)?;
     let mut bytes = [0; 64];
     bytes[37] = 0x20;
     let word = Word512::from_bytes(&bytes);
     *codes.row_mut(8) = word;
-    assert_eq!(rt; a0.set_column(301, &[0x0f, 0]), Ok(()));
-    assert_eq!(rt; a1.set_column(301, &[0x3c, 0]), Ok(()));
-    mask(&a0, &a1, &codes, &mut out);
+    assert_eq!(rt; zeros.set_column(301, &[0x0f, 0]), Ok(()));
+    assert_eq!(rt; ones.set_column(301, &[0x3c, 0]), Ok(()));
+    mask(&zeros, &ones, &codes, &mut out);
     assert_eq!(rt; out.column(301), [0x33, 1].as_slice());
     assert_eq!(rt; out.column(300), [0, 0].as_slice());
-    open_column(&mut a0, &Word512::zero(), 301, out.column(301));
-    assert_eq!(rt; a0.column(301), [0x0f, 0].as_slice());
-    open_column(&mut a1, &word, 301, out.column(301));
-    assert_eq!(rt; a1.column(301), [0x0f, 1].as_slice());
+    open_column(&mut zeros, &Word512::zero(), 301, out.column(301));
+    assert_eq!(rt; zeros.column(301), [0x0f, 0].as_slice());
+    open_column(&mut ones, &word, 301, out.column(301));
+    assert_eq!(rt; ones.column(301), [0x0f, 1].as_slice());
     Ok(())
 }
 

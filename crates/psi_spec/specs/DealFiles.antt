@@ -10,11 +10,11 @@ use Rattle.psi_spec.specs.Deals.{SeedPair, ReceiverDeal, SenderDeal, seed_pairs}
 abbrev pub deal_version : ℕ
 deal_version = 2
 
-abbrev pub receiver_size : ℕ
-receiver_size = 32848
+abbrev pub receiver_file_size : ℕ
+receiver_file_size = 32848
 
-abbrev pub sender_size : ℕ
-sender_size = 16528
+abbrev pub sender_file_size : ℕ
+sender_file_size = 16528
 
 -- ---- what is written
 

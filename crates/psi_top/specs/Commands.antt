@@ -1,41 +1,40 @@
--- The commands as trees of steps, and what a run may answer.
-use Rattle.std.specs.Prelude.{◌≡◌, ℕ, List, Option, Some, None}
-use Rattle.psi_words.specs.Words.{bad_word}
+-- The commands, and what a run may answer.
+use Rattle.std.specs.Prelude.{◌≡◌, ◌++◌, ℕ, List, Option, Some, None}
+use Rattle.psi_words.specs.Words.{bad_word, word_at}
 use Rattle.psi_base.specs.Outside.{Known, Outside}
-use Rattle.psi_auditor.specs.Audit.{audit_tree}
-use Rattle.psi_dealer.specs.Deal.{deal_tree}
-use Rattle.psi_words.specs.Form.{command_of}
-use Rattle.psi_local.specs.Local.{local_tree}
-use Rattle.psi_local.specs.Make.{make_tree}
-use Rattle.psi_link.specs.Receive.{receive_tree}
-use Rattle.psi_dealer.specs.Renew.{renew_tree}
-use Rattle.psi_link.specs.Send.{send_tree}
-use Rattle.psi_walk.specs.Tree.{Tree, End, stopped}
-use Rattle.psi_local.specs.Trial.{trial_tree}
-use Rattle.psi_twin.specs.Twin.{twin_tree}
-use Rattle.psi_walk.specs.Walk.{Runs}
-use Rattle.psi_words.specs.declared.form.Command.{Command}
-use Rattle.psi_words.specs.declared.form.Command.TheVariants.{Audit, Deal, Local, Make, Receive, Renew, Send, Trial, Twin}
+use Rattle.psi_walk.specs.Command.{Answers, Command, Meaning, OnNamed, means, named, nothing}
+use Rattle.psi_walk.specs.Tree.{End, stopped}
+use Rattle.psi_auditor.specs.Commands.{auditor_commands}
+use Rattle.psi_dealer.specs.Commands.{dealer_commands}
+use Rattle.psi_link.specs.Commands.{link_commands}
+use Rattle.psi_local.specs.Commands.{local_commands}
+use Rattle.psi_twin.specs.Commands.{twin_commands}
 use Rattle.psi_texts.specs.declared.status.Status.TheVariants.{BadWords}
 
--- the steps of a command with these words
-abbrev pub tree_of : Command → List (List ℕ) → Tree
-tree_of Deal words = deal_tree words
-tree_of Local words = local_tree words
-tree_of Send words = send_tree words
-tree_of Receive words = receive_tree words
-tree_of Make words = make_tree words
-tree_of Trial words = trial_tree words
-tree_of Audit words = audit_tree
-tree_of Twin words = twin_tree
-tree_of Renew words = renew_tree
+-- all commands, by the crates where they stand
+abbrev pub commands : List Command
+commands = dealer_commands ++ (local_commands ++ (link_commands ++ (auditor_commands ++ twin_commands)))
 
--- what a run may answer, by the bad place of its words and the command that they name
-abbrev pub AnswersBy : Known → List (List ℕ) → Outside → End → Option ℕ → Option Command → Type 0
-AnswersBy known words before end (Some at) command = end ≡ stopped (BadWords at) before
-AnswersBy known words before end None None = ⊥
-AnswersBy known words before end None (Some command) = Runs known words (tree_of command words) before end
+-- the command that the first word names
+abbrev pub command_of : List (List ℕ) → Meaning
+command_of words = named commands (word_at words 0)
 
--- what a run may answer
-abbrev pub Answers : Known → List (List ℕ) → Outside → End → Type 0
-Answers known words before end = AnswersBy known words before end (bad_word words) (command_of words)
+-- the least place, counted from 0, whose word is bad: the first, where it names no command
+abbrev pub bad_by : Meaning → List (List ℕ) → Option ℕ
+bad_by nothing words = Some 0
+bad_by (means command) words = bad_word command.forms words
+
+abbrev pub bad_place : List (List ℕ) → Option ℕ
+bad_place words = bad_by (command_of words) words
+
+-- what a run may answer, by what its first word means
+abbrev pub RunsAs : Meaning → Known → List (List ℕ) → Outside → End → Type 0
+RunsAs nothing known words before end = end ≡ stopped (BadWords 0) before
+RunsAs (means command) known words before end = Answers command known words before end
+
+abbrev pub RunAnswers : Known → List (List ℕ) → Outside → End → Type 0
+RunAnswers known words before end = RunsAs (command_of words) known words before end
+
+-- a fact on the command that the words name, where none of them is bad
+abbrev pub OnCommand : List (List ℕ) → (Command → Type 0) → Type 0
+OnCommand words P = OnNamed (command_of words) (λ command. bad_word command.forms words ≡ None → P command)

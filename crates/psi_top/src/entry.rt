@@ -1,40 +1,42 @@
 // The top call.
-ghost use Rattle.psi_words.specs.Words.{bad_word};
-ghost use Rattle.psi_top.specs.Commands.{Answers};
-ghost use Rattle.psi_top.specs.Headline.{IsWired, LocalShows, ReceiveFinds, ReceiveHides, TwinHides};
-ghost use Rattle.psi_top.specs.Promises.{CountsBy, DoneLeaves, IsBadWords, IsOfCommand, OnTold, Promised, RunsThrough};
+ghost use Rattle.psi_top.specs.Commands.{RunAnswers, bad_place, command_of, commands};
+ghost use Rattle.psi_top.specs.Headline.{LocalShows, ReceiveFinds, ReceiveHides, TwinHides};
+ghost use Rattle.psi_top.specs.Promises.{CountsBy, DoneLeaves, IsBadWords, IsOfCommand, IsWiredAs, OnTold, Promised, RunsThrough};
+ghost use Rattle.psi_walk.specs.Command.{CarriesOut};
 ghost use Rattle.psi_walk.specs.Promises.{Completes, IsDue, StandsAt};
 ghost use Rattle.psi_walk.specs.Tree.{ended};
 
-use psi_auditor::audit_command;
 use psi_base::{Words, World};
-use psi_dealer::{deal_command, renew_command};
-use psi_link::{receive_command, send_command};
-use psi_local::{local_command, make_command, trial_command};
 use psi_texts::Status;
-use psi_twin::twin_command;
 use psi_walk::Outcome;
-use psi_words::{Command, bad_word, named_command};
 use std::alloc::Global;
 
-// Reads the words, and calls the command that they name.
+// Carries out the command that the first word names, in the crate where it stands.
+fn carry_out<W: World>(alloc: Global, words: &Words, world: &mut W) -> Option<Outcome>
+    ensures { CarriesOut commands W.known words.now (W.outside world.old) result (W.outside world.new) }
+{
+    if let Some(outcome) = psi_dealer::carry_out(alloc, words, world) {
+        return Some(outcome);
+    }
+    if let Some(outcome) = psi_local::carry_out(alloc, words, world) {
+        return Some(outcome);
+    }
+    if let Some(outcome) = psi_link::carry_out(alloc, words, world) {
+        return Some(outcome);
+    }
+    if let Some(outcome) = psi_auditor::carry_out(alloc, words, world) {
+        return Some(outcome);
+    }
+    psi_twin::carry_out(alloc, words, world)
+}
+
+// The same, or a first word is refused that names no command.
 fn answer<W: World>(alloc: Global, words: &Words, world: &mut W) -> Outcome
-    ensures answers { Answers W.known words.now (W.outside world.old) (ended result (W.outside world.new)) }
+    ensures answers { RunAnswers W.known words.now (W.outside world.old) (ended result (W.outside world.new)) }
     ensures promised { Promised W.known words.now (W.outside world.old) (ended result (W.outside world.new)) }
 {
-    if let Some(at) = bad_word(words) {
-        return Outcome::of(Status::BadWords { at });
-    }
-    match named_command(words) {
-        Some(Command::Deal) => deal_command(alloc, words, world),
-        Some(Command::Local) => local_command(alloc, words, world),
-        Some(Command::Send) => send_command(alloc, words, world),
-        Some(Command::Receive) => receive_command(alloc, words, world),
-        Some(Command::Make) => make_command(alloc, words, world),
-        Some(Command::Trial) => trial_command(alloc, words, world),
-        Some(Command::Audit) => audit_command(alloc, words, world),
-        Some(Command::Twin) => twin_command(alloc, words, world),
-        Some(Command::Renew) => renew_command(alloc, words, world),
+    match carry_out(alloc, words, world) {
+        Some(outcome) => outcome,
         None => Outcome::of(Status::BadWords { at: 0 }),
     }
 }
@@ -42,14 +44,14 @@ fn answer<W: World>(alloc: Global, words: &Words, world: &mut W) -> Outcome
 /// Does all that the program does: reads the words of a command, and carries the command out.
 pub fn run<W: World>(alloc: Global, words: &Words, world: &mut W) -> Outcome
     // How the run followed the tree of its command, step by step. The other clauses follow from it.
-    ensures answers { Answers W.known words.now (W.outside world.old) (ended result (W.outside world.new)) }
+    ensures answers { RunAnswers W.known words.now (W.outside world.old) (ended result (W.outside world.new)) }
 
     // A bad word is refused at its place, and no other words are.
-    ensures bad_words { IsBadWords result.status (bad_word words.now) }
+    ensures bad_words { IsBadWords result.status (bad_place words.now) }
 
     // A bad word changes nothing. A fault of the outside comes only where its count rose, in a steady world none does
     // but that of a missing file, and no other count changes.
-    ensures counts { CountsBy words.now (W.outside world.old) result.status (W.outside world.new) (bad_word words.now) }
+    ensures counts { CountsBy words.now (W.outside world.old) result.status (W.outside world.new) (bad_place words.now) }
 
     // In every world there are contents, each given by a read of the file of its word, and placements, which are those
     // of the outcome, for which the status follows, and what was sent and taken over the link.
@@ -74,9 +76,9 @@ pub fn run<W: World>(alloc: Global, words: &Words, world: &mut W) -> Outcome
     // What a run that is done read and left, in every world.
     ensures done { DoneLeaves W.known words.now (W.outside world.old) (ended result (W.outside world.new)) }
 
-    // What the command itself promises, in its own words: `promise_of` names for each command the promise that stands
-    // in its crate. Each says what it may answer and why, what it leaves where it is done, or from what it is done.
-    // Those that make the headline are spelled out below.
+    // What the command itself promises, in its own words: its promise stands in its crate, beside its name. Each says
+    // what it may answer and why, what it leaves where it is done, or from what it is done. Those that make the
+    // headline are spelled out below.
     ensures promised { Promised W.known words.now (W.outside world.old) (ended result (W.outside world.new)) }
 
     // Where `local` is done, the outcome's slots are a placement of the receiver's items. With it `local` printed every
@@ -85,7 +87,7 @@ pub fn run<W: World>(alloc: Global, words: &Words, world: &mut W) -> Outcome
     ensures shown { LocalShows W.known words.now (W.outside world.old) (ended result (W.outside world.new)) }
 
     // Only a run that is done and ran a session of both ends has such a digest.
-    ensures wire { IsWired words.now (ended result (W.outside world.new)) }
+    ensures wire { IsWiredAs (command_of words.now) (ended result (W.outside world.new)) }
 
     // For an honest peer, whatever its list, `receive` prints every common item, and each other printed item shares its
     // tag with a named sender item.

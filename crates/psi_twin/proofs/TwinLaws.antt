@@ -30,6 +30,8 @@ use Rattle.psi_walk.proofs.Placings.{is_placement}
 use Rattle.psi_walk.proofs.Left.{follows_leaves}
 use Rattle.psi_walk.proofs.Through.{runs_through}
 use Rattle.psi_walk.proofs.Wired.{MayBeWired, decides_wired, ends_wired, items_wired, receiver_wired, runs_unwired, sender_wired}
+use Rattle.psi_walk.specs.Command.{Keeps}
+use Rattle.psi_twin.specs.Commands.{command_twin}
 
 -- ---- what was read
 
@@ -338,7 +340,7 @@ twin_answers known words before end h =
     of_first known words before end.placed end.status end.left
     (answered_items known words 1 (λ xs. reads_items 2 (λ others. reads_receiver 3 (λ receiver. reads_sender 4 (λ sender. twin_sets receiver sender xs others)))) before end.placed end.status end.left (follows_answers known words false twin_tree before end h))
 
-pub twin_promise : (known : Known) (words : List (List ℕ)) (before : Outside) (end : End) → Runs known words twin_tree before end → TwinPromise known words before end
+twin_promise : (known : Known) (words : List (List ℕ)) (before : Outside) (end : End) → Runs known words twin_tree before end → TwinPromise known words before end
 unfolding Answered
 twin_promise known words before end h =
     let answered = twin_answers known words before end h in
@@ -346,7 +348,10 @@ twin_promise known words before end h =
       answers = answered.0;
       silent = answered.1;
       hides = λ done. twin_leaves known words before end (follows_leaves known words false twin_tree before end done h);
-      wire = runs_unwired known words twin_tree before end twin_unwired h;
       completes = λ files is can calm.
           runs_through known words false twin_tree before end h (ready_told files words before twin_tree is (twin_is_ready words files before can)) calm;
     }
+
+pub twin_keeps : (known : Known) (words : List (List ℕ)) (before : Outside) (end : End) → Runs known words twin_tree before end
+    → Keeps command_twin known words before end
+twin_keeps known words before end h = record { promise = twin_promise known words before end h; wire = runs_unwired known words twin_tree before end twin_unwired h }

@@ -176,11 +176,10 @@ TwinCompletes words before end =
 
 -- ---- all of it
 
--- all that `twin` promises: it answers so, sends and takes nothing, shows what is hidden where it is done, has no
--- digest, and completes
+-- all that `twin` promises: it answers so, sends and takes nothing, shows what is hidden where it is done, and
+-- completes
 pub record TwinPromise (known : Known) (words : List (List ℕ)) (before : Outside) (end : End) : Type 0 where
   pub answers : TwinAnswers known words before end.placed end.status
   pub silent : IsSilent before end.left
   pub hides : end.status ≡ Done → HidTwins known words before end
-  pub wire : end.wire ≡ None
   pub completes : TwinCompletes words before end

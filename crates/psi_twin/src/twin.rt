@@ -1,4 +1,6 @@
 // What the receiver sends of one list, and the columns over which it sends the same of another.
+ghost use Rattle.psi_walk.specs.Command.{Answers, KeepsInForm};
+ghost use Rattle.psi_twin.specs.Commands.{command_twin};
 ghost use Rattle.std.specs.Prelude.{◌≡◌, IfOk, None, OnOk, length};
 ghost use Rattle.psi_spec.specs.Limits.{bins_for, rows_for};
 ghost use Rattle.psi_spec.specs.Meeting.{placed_of};
@@ -22,7 +24,20 @@ use psi_walk::{
     Outcome, Placements, outcome_of, place_items, read_items, read_receiver_deal, read_sender_deal,
     status, write_word,
 };
+use psi_words::{CommandForms, Form, bad_word};
 use std::alloc::Global;
+
+const TWIN: CommandForms = CommandForms {
+    needed: &[
+        Form::Name,
+        Form::Name,
+        Form::Name,
+        Form::Name,
+        Form::Output { from: 1, to: 5 },
+        Form::Output { from: 1, to: 6 },
+    ],
+    optional: &[],
+};
 
 // Judges whether the deals are a pair, and both lists have one number of items.
 #[tactic(auto, unfolding(crate::specs::Twin::twins_in))]
@@ -126,16 +141,20 @@ fn twin_steps<W: World>(alloc: Global, words: &Words, world: &mut W) -> Result<O
 /// first list over the columns of its deal. OUT2 gets those columns, changed where the sender did not choose them: of
 /// each number the zero column, and then the one column.
 pub fn twin_command<W: World>(alloc: Global, words: &Words, world: &mut W) -> Outcome
-    // How it follows the tree of the command, step by step. The promise follows from it.
-    ensures steps { Runs W.known words.now twin_tree (W.outside world.old)
-        (ended result (W.outside world.new)) }
+    // A bad word is refused at its place, and changes nothing. From words in form it follows the tree of the command,
+    // step by step. The promise follows from it.
+    ensures steps { Answers command_twin W.known words.now (W.outside world.old) (ended result (W.outside world.new)) }
 
     // What it may answer, and why: its files are judged in order, then the deals and the numbers of the items; the
     // first list is placed, then the second, and then both files are written. Where it is done it wrote the receiver's
     // stream of the first, and the columns over which the second has that same stream. It sends and takes nothing. From
     // valid lists of one number of items that both have a placement, and a pair of deals, it is done where no fault was
     // counted or the world is steady, or memory was wanting.
-    ensures promise { TwinPromise W.known words.now (W.outside world.old) (ended result (W.outside world.new)) }
+    ensures promise { KeepsInForm command_twin W.known words.now (W.outside world.old)
+        (ended result (W.outside world.new)) }
 {
+    if let Some(at) = bad_word(words, TWIN) {
+        return Outcome::of(Status::BadWords { at });
+    }
     outcome_of(twin_steps(alloc, words, world))
 }

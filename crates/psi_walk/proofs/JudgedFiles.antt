@@ -1,7 +1,7 @@
 -- What a run that read and judged a file answers and leaves.
 use Rattle.std.proofs.Common.{◌≡◌, inl, inr, ℕ, false, List, [], Option, Some, None, Ok, Err, refl, sym, subst}
 use Rattle.std.specs.declared.result.Result.{Result}
-use Rattle.psi_spec.specs.DealFiles.{receiver_of, receiver_size, sender_of, sender_size}
+use Rattle.psi_spec.specs.DealFiles.{receiver_of, receiver_file_size, sender_of, sender_file_size}
 use Rattle.psi_spec.specs.Deals.{ReceiverDeal, SenderDeal, IsReceiverDeal, IsSenderDeal}
 use Rattle.psi_spec.specs.Items.{BadLine, first_bad, items_of}
 use Rattle.psi_spec.specs.Limits.{file_limit, record_limit}
@@ -102,22 +102,22 @@ answered_items known words word next before slots why after h = answered_file kn
 
 -- ---- sender's deal files
 
-sender_good : (word : ℕ) (bytes : List ℕ) (deal : SenderDeal) → sender_in word bytes ≡ Ok deal → (bad_deal 1 sender_size bytes ≡ None) × (deal ≡ sender_of bytes)
+sender_good : (word : ℕ) (bytes : List ℕ) (deal : SenderDeal) → sender_in word bytes ≡ Ok deal → (bad_deal 1 sender_file_size bytes ≡ None) × (deal ≡ sender_of bytes)
 unfolding sender_in
-sender_good word bytes deal e = by_fault (bad_deal 1 sender_size bytes) refl e
+sender_good word bytes deal e = by_fault (bad_deal 1 sender_file_size bytes) refl e
   where
-    by_fault : (fault : Option DealFault) → bad_deal 1 sender_size bytes ≡ fault → judged_sender word bytes fault ≡ Ok deal
-        → (bad_deal 1 sender_size bytes ≡ None) × (deal ≡ sender_of bytes)
+    by_fault : (fault : Option DealFault) → bad_deal 1 sender_file_size bytes ≡ fault → judged_sender word bytes fault ≡ Ok deal
+        → (bad_deal 1 sender_file_size bytes ≡ None) × (deal ≡ sender_of bytes)
     by_fault None f e = (f, let g : Ok (sender_of bytes) ≡ Ok deal = e in cc g)
     by_fault (Some fault) f e = cc e
 
 pub sender_bad : (word : ℕ) (bytes : List ℕ) (why : Status) → sender_in word bytes ≡ Err why
-    → (fault : DealFault) × (bad_deal 1 sender_size bytes ≡ Some fault) × (why ≡ status.BadDeal word fault)
+    → (fault : DealFault) × (bad_deal 1 sender_file_size bytes ≡ Some fault) × (why ≡ status.BadDeal word fault)
 unfolding sender_in
-sender_bad word bytes why e = by_fault (bad_deal 1 sender_size bytes) refl e
+sender_bad word bytes why e = by_fault (bad_deal 1 sender_file_size bytes) refl e
   where
-    by_fault : (fault : Option DealFault) → bad_deal 1 sender_size bytes ≡ fault → judged_sender word bytes fault ≡ Err why
-        → (fault : DealFault) × (bad_deal 1 sender_size bytes ≡ Some fault) × (why ≡ status.BadDeal word fault)
+    by_fault : (fault : Option DealFault) → bad_deal 1 sender_file_size bytes ≡ fault → judged_sender word bytes fault ≡ Err why
+        → (fault : DealFault) × (bad_deal 1 sender_file_size bytes ≡ Some fault) × (why ≡ status.BadDeal word fault)
     by_fault None f e = cc e
     by_fault (Some fault) f e = (fault, f, cc e)
 
@@ -128,7 +128,7 @@ has_sender known words before word bytes deal read e =
     record { bytes = bytes; read = read; good = good.0; spelled = good.1 }
 
 pub has_bad_sender : (known : Known) (words : List (List ℕ)) (before : Outside) (word : ℕ) (bytes : List ℕ) (fault : DealFault)
-    → WasRead known words before word file_limit bytes → bad_deal 1 sender_size bytes ≡ Some fault → HasBadSenderDeal known words before word fault
+    → WasRead known words before word file_limit bytes → bad_deal 1 sender_file_size bytes ≡ Some fault → HasBadSenderDeal known words before word fault
 has_bad_sender known words before word bytes fault read e = record { bytes = bytes; read = read; bad = e }
 
 pub left_sender : (known : Known) (words : List (List ℕ)) (word : ℕ) (next : SenderDeal → Tree) (before : Outside) (end : End)
@@ -147,22 +147,22 @@ answered_sender known words word next before slots why after h = answered_file k
 
 -- ---- receiver's deal files
 
-receiver_good : (word : ℕ) (bytes : List ℕ) (deal : ReceiverDeal) → receiver_in word bytes ≡ Ok deal → (bad_deal 0 receiver_size bytes ≡ None) × (deal ≡ receiver_of bytes)
+receiver_good : (word : ℕ) (bytes : List ℕ) (deal : ReceiverDeal) → receiver_in word bytes ≡ Ok deal → (bad_deal 0 receiver_file_size bytes ≡ None) × (deal ≡ receiver_of bytes)
 unfolding receiver_in
-receiver_good word bytes deal e = by_fault (bad_deal 0 receiver_size bytes) refl e
+receiver_good word bytes deal e = by_fault (bad_deal 0 receiver_file_size bytes) refl e
   where
-    by_fault : (fault : Option DealFault) → bad_deal 0 receiver_size bytes ≡ fault → judged_receiver word bytes fault ≡ Ok deal
-        → (bad_deal 0 receiver_size bytes ≡ None) × (deal ≡ receiver_of bytes)
+    by_fault : (fault : Option DealFault) → bad_deal 0 receiver_file_size bytes ≡ fault → judged_receiver word bytes fault ≡ Ok deal
+        → (bad_deal 0 receiver_file_size bytes ≡ None) × (deal ≡ receiver_of bytes)
     by_fault None f e = (f, let g : Ok (receiver_of bytes) ≡ Ok deal = e in cc g)
     by_fault (Some fault) f e = cc e
 
 pub receiver_bad : (word : ℕ) (bytes : List ℕ) (why : Status) → receiver_in word bytes ≡ Err why
-    → (fault : DealFault) × (bad_deal 0 receiver_size bytes ≡ Some fault) × (why ≡ status.BadDeal word fault)
+    → (fault : DealFault) × (bad_deal 0 receiver_file_size bytes ≡ Some fault) × (why ≡ status.BadDeal word fault)
 unfolding receiver_in
-receiver_bad word bytes why e = by_fault (bad_deal 0 receiver_size bytes) refl e
+receiver_bad word bytes why e = by_fault (bad_deal 0 receiver_file_size bytes) refl e
   where
-    by_fault : (fault : Option DealFault) → bad_deal 0 receiver_size bytes ≡ fault → judged_receiver word bytes fault ≡ Err why
-        → (fault : DealFault) × (bad_deal 0 receiver_size bytes ≡ Some fault) × (why ≡ status.BadDeal word fault)
+    by_fault : (fault : Option DealFault) → bad_deal 0 receiver_file_size bytes ≡ fault → judged_receiver word bytes fault ≡ Err why
+        → (fault : DealFault) × (bad_deal 0 receiver_file_size bytes ≡ Some fault) × (why ≡ status.BadDeal word fault)
     by_fault None f e = cc e
     by_fault (Some fault) f e = (fault, f, cc e)
 
@@ -173,7 +173,7 @@ has_receiver known words before word bytes deal read e =
     record { bytes = bytes; read = read; good = good.0; spelled = good.1 }
 
 pub has_bad_receiver : (known : Known) (words : List (List ℕ)) (before : Outside) (word : ℕ) (bytes : List ℕ) (fault : DealFault)
-    → WasRead known words before word file_limit bytes → bad_deal 0 receiver_size bytes ≡ Some fault → HasBadReceiverDeal known words before word fault
+    → WasRead known words before word file_limit bytes → bad_deal 0 receiver_file_size bytes ≡ Some fault → HasBadReceiverDeal known words before word fault
 has_bad_receiver known words before word bytes fault read e = record { bytes = bytes; read = read; bad = e }
 
 pub left_receiver : (known : Known) (words : List (List ℕ)) (word : ℕ) (next : ReceiverDeal → Tree) (before : Outside) (end : End)
@@ -280,8 +280,8 @@ answered_old known words word next before slots why after h = answered_file know
 -- the deal of a file that was read and judged
 pub sender_deal_of : (known : Known) (words : List (List ℕ)) (before : Outside) (word : ℕ) (deal : SenderDeal) → HasSenderDeal known words before word deal → IsSenderDeal deal
 sender_deal_of known words before word deal h =
-    subst IsSenderDeal (sym h.spelled) (good_sender h.bytes h.read.are_bytes (good_from_none 1 sender_size h.bytes h.good))
+    subst IsSenderDeal (sym h.spelled) (good_sender h.bytes h.read.are_bytes (good_from_none 1 sender_file_size h.bytes h.good))
 
 pub receiver_deal_of : (known : Known) (words : List (List ℕ)) (before : Outside) (word : ℕ) (deal : ReceiverDeal) → HasReceiverDeal known words before word deal → IsReceiverDeal deal
 receiver_deal_of known words before word deal h =
-    subst IsReceiverDeal (sym h.spelled) (good_receiver h.bytes h.read.are_bytes (good_from_none 0 receiver_size h.bytes h.good))
+    subst IsReceiverDeal (sym h.spelled) (good_receiver h.bytes h.read.are_bytes (good_from_none 0 receiver_file_size h.bytes h.good))

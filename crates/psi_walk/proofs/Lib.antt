@@ -1,5 +1,6 @@
 pub mod Answered
 pub mod Carried
+pub mod Commands
 pub mod Counted
 pub mod Digests
 pub mod Elements

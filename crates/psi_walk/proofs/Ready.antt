@@ -9,7 +9,7 @@ use Rattle.psi_walk.specs.Files.{items_in, receiver_in, sender_in}
 use Rattle.psi_walk.specs.Promises.{HasBytes, IsReady}
 use Rattle.psi_walk.specs.Tree.{Tree, decides}
 use Rattle.psi_texts.specs.declared.status.Status.{Status}
-use Rattle.psi_spec.specs.DealFiles.{receiver_bytes, receiver_size, sender_bytes, sender_size}
+use Rattle.psi_spec.specs.DealFiles.{receiver_bytes, receiver_file_size, sender_bytes, sender_file_size}
 use Rattle.psi_spec.specs.Deals.{IsReceiverDeal, IsSenderDeal, ReceiverDeal, SenderDeal}
 use Rattle.psi_spec.specs.Limits.{file_limit}
 use Rattle.psi_spec.proofs.DealFiles.{length-receiver_bytes, length-sender_bytes, receiver_files_read_back, sender_files_read_back}
@@ -40,7 +40,7 @@ ready_told files words before tree is r = subst (λ (o : Option Files). IsReady 
 pub sender_ready : (word : ℕ) (deal : SenderDeal) → IsSenderDeal deal → sender_in word (sender_bytes deal) ≡ Ok deal
 unfolding sender_in
 sender_ready word deal is =
-    let none : bad_deal 1 sender_size (sender_bytes deal) ≡ None = none_from_good 1 sender_size (sender_bytes deal) (sender_file_is_good deal is) in
+    let none : bad_deal 1 sender_file_size (sender_bytes deal) ≡ None = none_from_good 1 sender_file_size (sender_bytes deal) (sender_file_is_good deal is) in
     rw (none, sender_files_read_back deal is) refl
 
 pub sender_file_is_short : (deal : SenderDeal) → IsSenderDeal deal → length (sender_bytes deal) ≤ file_limit
@@ -49,7 +49,7 @@ sender_file_is_short deal is = omega (arith, length-sender_bytes deal is)
 pub receiver_ready : (word : ℕ) (deal : ReceiverDeal) → IsReceiverDeal deal → receiver_in word (receiver_bytes deal) ≡ Ok deal
 unfolding receiver_in
 receiver_ready word deal is =
-    let none : bad_deal 0 receiver_size (receiver_bytes deal) ≡ None = none_from_good 0 receiver_size (receiver_bytes deal) (receiver_file_is_good deal is) in
+    let none : bad_deal 0 receiver_file_size (receiver_bytes deal) ≡ None = none_from_good 0 receiver_file_size (receiver_bytes deal) (receiver_file_is_good deal is) in
     rw (none, receiver_files_read_back deal is) refl
 
 pub receiver_file_is_short : (deal : ReceiverDeal) → IsReceiverDeal deal → length (receiver_bytes deal) ≤ file_limit

@@ -2,7 +2,7 @@
 use Rattle.std.specs.Prelude.{ℕ, List, Option, None, Some, Result, Ok, Err}
 use Rattle.psi_spec.specs.Items.{BadLine, items_of, first_bad}
 use Rattle.psi_spec.specs.Limits.{file_limit, record_limit}
-use Rattle.psi_spec.specs.DealFiles.{receiver_of, receiver_size, sender_of, sender_size}
+use Rattle.psi_spec.specs.DealFiles.{receiver_of, receiver_file_size, sender_of, sender_file_size}
 use Rattle.psi_spec.specs.Deals.{ReceiverDeal, SenderDeal}
 use Rattle.psi_spec.specs.Records.{LoggedSession, logged_of}
 use Rattle.psi_deal.specs.BadDeals.{bad_deal, bad_old_deal}
@@ -34,7 +34,7 @@ judged_sender word bytes None = Ok (sender_of bytes)
 judged_sender word bytes (Some fault) = Err (BadDeal word fault)
 
 unfoldable pub sender_in : ℕ → List ℕ → Result SenderDeal Status
-sender_in word bytes = judged_sender word bytes (bad_deal 1 sender_size bytes)
+sender_in word bytes = judged_sender word bytes (bad_deal 1 sender_file_size bytes)
 
 -- the steps that read the sender's deal file of a word and judge it
 unfoldable pub reads_sender : ℕ → (SenderDeal → Tree) → Tree
@@ -46,7 +46,7 @@ judged_receiver word bytes None = Ok (receiver_of bytes)
 judged_receiver word bytes (Some fault) = Err (BadDeal word fault)
 
 unfoldable pub receiver_in : ℕ → List ℕ → Result ReceiverDeal Status
-receiver_in word bytes = judged_receiver word bytes (bad_deal 0 receiver_size bytes)
+receiver_in word bytes = judged_receiver word bytes (bad_deal 0 receiver_file_size bytes)
 
 -- the steps that read the receiver's deal file of a word and judge it
 unfoldable pub reads_receiver : ℕ → (ReceiverDeal → Tree) → Tree

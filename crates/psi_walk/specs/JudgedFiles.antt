@@ -1,6 +1,6 @@
 -- Files that were read, and what they hold.
 use Rattle.std.specs.Prelude.{◌≡◌, ℕ, List, None, Some}
-use Rattle.psi_spec.specs.DealFiles.{receiver_of, receiver_size, sender_of, sender_size}
+use Rattle.psi_spec.specs.DealFiles.{receiver_of, receiver_file_size, sender_of, sender_file_size}
 use Rattle.psi_spec.specs.Deals.{ReceiverDeal, SenderDeal}
 use Rattle.psi_spec.specs.Items.{BadLine, first_bad, items_of}
 use Rattle.psi_spec.specs.Limits.{file_limit, record_limit}
@@ -38,7 +38,7 @@ pub record HasSenderDeal (known : Known) (words : List (List ℕ)) (before : Out
     : Type 0 where
   pub bytes : List ℕ
   pub read : WasRead known words before word file_limit bytes
-  pub good : bad_deal 1 sender_size bytes ≡ None
+  pub good : bad_deal 1 sender_file_size bytes ≡ None
   pub spelled : deal ≡ sender_of bytes
 
 -- the file of a word was read and is no deal file of the sender, first for this reason
@@ -46,14 +46,14 @@ pub record HasBadSenderDeal (known : Known) (words : List (List ℕ)) (before : 
     : Type 0 where
   pub bytes : List ℕ
   pub read : WasRead known words before word file_limit bytes
-  pub bad : bad_deal 1 sender_size bytes ≡ Some fault
+  pub bad : bad_deal 1 sender_file_size bytes ≡ Some fault
 
 -- the receiver's deal file of a word was read, and this is its deal
 pub record HasReceiverDeal (known : Known) (words : List (List ℕ)) (before : Outside) (word : ℕ) (deal : ReceiverDeal)
     : Type 0 where
   pub bytes : List ℕ
   pub read : WasRead known words before word file_limit bytes
-  pub good : bad_deal 0 receiver_size bytes ≡ None
+  pub good : bad_deal 0 receiver_file_size bytes ≡ None
   pub spelled : deal ≡ receiver_of bytes
 
 -- the file of a word was read and is no deal file of the receiver, first for this reason
@@ -61,7 +61,7 @@ pub record HasBadReceiverDeal (known : Known) (words : List (List ℕ)) (before 
     : Type 0 where
   pub bytes : List ℕ
   pub read : WasRead known words before word file_limit bytes
-  pub bad : bad_deal 0 receiver_size bytes ≡ Some fault
+  pub bad : bad_deal 0 receiver_file_size bytes ≡ Some fault
 
 -- the record file of a word was read, and this is the session that it holds
 pub record HasRecord (known : Known) (words : List (List ℕ)) (before : Outside) (word : ℕ) (log : LoggedSession)

@@ -1,3 +1,4 @@
+pub mod Command
 pub mod Due
 pub mod Files
 pub mod Hiding

@@ -1,6 +1,3 @@
-pub mod DealWords
 pub mod Forms
-pub mod LocalWords
-pub mod MakeWords
-pub mod NamedWords
+pub mod InForm
 pub mod WordValues

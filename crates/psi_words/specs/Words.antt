@@ -1,8 +1,7 @@
 -- The words of a command line: their forms, and what they say.
-use Rattle.std.specs.Prelude.{ℕ, ◌+◌, ◌-◌, ◌^◌, ◌==◌, ◌&&◌, ◌||◌, Bool, false, not, List, [], ◌∷◌, length, zero, suc, Option, Some, None, nat_lt, nat_le, slice_get, unwrap_or, codes, if◌then◌else◌}
+use Rattle.std.specs.Prelude.{ℕ, ◌+◌, ◌-◌, ◌^◌, ◌==◌, ◌&&◌, ◌||◌, Bool, false, not, List, [], ◌∷◌, length, zero, suc, Option, Some, None, nat_lt, nat_le, slice_get, unwrap_or, if◌then◌else◌}
 use Rattle.std.specs.Char.{is_ascii_digit}
 use Rattle.std.specs.List.{after_first, before_first, list_all, list_any}
-use Rattle.std.specs.Option.{option_map_or}
 use Rattle.std.specs.Result.{result_unwrap_or}
 use Rattle.std.specs.Str.{bytes_eq}
 use Rattle.std.specs.Str.Parse.{digits_value}
@@ -103,73 +102,6 @@ pub record Forms : Type 0 where
   pub needed : List Form
   pub optional : List Form
 
--- the forms of `local`: the receiver's file, the sender's file, the seed, the session and the sizes; and, where it is
--- there, the record, which is neither file
-abbrev pub local_forms : Forms
-local_forms = record {
-  needed = alone is_name ∷ alone is_name ∷ alone is_seed ∷ alone is_session ∷ alone are_sizes ∷ [];
-  optional = is_output 1 3 ∷ [];
-}
-
--- the forms of `deal`: the seed, the session, the sizes, the receiver's file and the sender's file
-abbrev pub deal_forms : Forms
-deal_forms = record {
-  needed = alone is_seed ∷ alone is_session ∷ alone are_sizes ∷ alone is_name ∷ is_output 4 5 ∷ [];
-  optional = [];
-}
-
--- the forms of `send`: the address, the sender's file, the sender's deal file
-abbrev pub send_forms : Forms
-send_forms = record { needed = alone is_name ∷ alone is_name ∷ alone is_name ∷ []; optional = [] }
-
--- the forms of `receive`: the address, the receiver's file, the receiver's deal file, and the record, which is neither
-abbrev pub receive_forms : Forms
-receive_forms = record { needed = alone is_name ∷ alone is_name ∷ alone is_name ∷ is_output 2 4 ∷ []; optional = [] }
-
--- the forms of `make`: the number of items, of those in both files, the number of the files, and the two files
-abbrev pub make_forms : Forms
-make_forms = record {
-  needed = alone is_count ∷ is_shared ∷ alone is_session ∷ alone is_name ∷ is_output 4 5 ∷ [];
-  optional = [];
-}
-
--- the forms of `trial`: the number of items, of those in both files, and the seed
-abbrev pub trial_forms : Forms
-trial_forms = record { needed = alone is_count ∷ is_shared ∷ alone is_seed ∷ []; optional = [] }
-
--- the forms of `audit`: both item files, both deal files and the record
-abbrev pub audit_forms : Forms
-audit_forms = record {
-  needed = alone is_name ∷ alone is_name ∷ alone is_name ∷ alone is_name ∷ alone is_name ∷ [];
-  optional = [];
-}
-
--- the forms of `twin`: both item files, both deal files, and the two files that are written, of which each is no file
--- before it
-abbrev pub twin_forms : Forms
-twin_forms = record {
-  needed = alone is_name ∷ alone is_name ∷ alone is_name ∷ alone is_name ∷ is_output 1 5 ∷ is_output 1 6 ∷ [];
-  optional = [];
-}
-
--- the forms of `renew`: the deal file of version 1, and the one of version 2, which is another file
-abbrev pub renew_forms : Forms
-renew_forms = record { needed = alone is_name ∷ is_output 1 2 ∷ []; optional = [] }
-
--- the forms of the words after a command's name
-abbrev pub forms_of : List ℕ → Option Forms
-forms_of name =
-    if bytes_eq name (codes "local") then Some local_forms
-    else if bytes_eq name (codes "deal") then Some deal_forms
-    else if bytes_eq name (codes "send") then Some send_forms
-    else if bytes_eq name (codes "receive") then Some receive_forms
-    else if bytes_eq name (codes "make") then Some make_forms
-    else if bytes_eq name (codes "trial") then Some trial_forms
-    else if bytes_eq name (codes "audit") then Some audit_forms
-    else if bytes_eq name (codes "twin") then Some twin_forms
-    else if bytes_eq name (codes "renew") then Some renew_forms
-    else None
-
 -- the least place from `at` on whose word is out of form or one too many, where each may be missing
 abbrev pub bad_optional : List Form → List (List ℕ) → ℕ → Option ℕ
 bad_optional [] words at = if nat_lt at (length words) then Some at else None
@@ -182,7 +114,6 @@ bad_from [] optional words at = bad_optional optional words at
 bad_from (form ∷ needed) optional words at =
     if nat_lt at (length words) && form words at then bad_from needed optional words (at + 1) else Some at
 
--- the least place, counted from 0, whose word fails the form of its command
-abbrev pub bad_word : List (List ℕ) → Option ℕ
-bad_word words =
-    option_map_or (λ forms. bad_from forms.needed forms.optional words 1) (forms_of (word_at words 0)) (Some 0)
+-- the least place, counted from 0, whose word after the command's name fails these forms
+abbrev pub bad_word : Forms → List (List ℕ) → Option ℕ
+bad_word forms words = bad_from forms.needed forms.optional words 1

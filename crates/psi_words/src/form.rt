@@ -1,33 +1,10 @@
 // The forms of a command's words.
-ghost use Rattle.std.specs.Prelude.{◌≡◌, ◌+◌, ◌<◌, ◌≤◌, length, Some};
-ghost use Rattle.psi_words.specs.Words.{bad_from, bad_optional, bad_word, forms_of, is_output, word_at};
-ghost use Rattle.psi_words.specs.Form.{command_of, name_of, test_of, tests_of};
+ghost use Rattle.std.specs.Prelude.{◌≡◌, ◌+◌, ◌<◌, ◌≤◌, length};
+ghost use Rattle.psi_words.specs.Words.{bad_from, bad_optional, bad_word, is_output, word_at};
+ghost use Rattle.psi_words.specs.Form.{forms_seen, test_of, tests_of};
 
 use crate::values::{are_sizes, is_count, is_part, is_seed, is_session};
 use psi_base::Words;
-
-/// The commands.
-#[derive(Clone, Copy, Debug, PartialEq, Eq)]
-pub enum Command {
-    /// The two deal files of a seed.
-    Deal,
-    /// Both ends of a session in one run.
-    Local,
-    /// The sender's end of a session.
-    Send,
-    /// The receiver's end of a session.
-    Receive,
-    /// Two item files that are made by rule.
-    Make,
-    /// Both ends of a session on made lists, in one run.
-    Trial,
-    /// A recorded session, judged by the inputs of both ends.
-    Audit,
-    /// What the receiver sends of one list, and the columns over which it sends the same of another.
-    Twin,
-    /// A deal file of version 1, made anew.
-    Renew,
-}
 
 /// The form that a word must have.
 #[derive(Clone, Copy, Debug, PartialEq, Eq)]
@@ -57,103 +34,6 @@ pub struct CommandForms {
     pub needed: &'static [Form],
     /// The forms of the words that may follow.
     pub optional: &'static [Form],
-}
-
-const DEAL: CommandForms = CommandForms {
-    needed: &[
-        Form::Seed,
-        Form::Session,
-        Form::Sizes,
-        Form::Name,
-        Form::Output { from: 4, to: 5 },
-    ],
-    optional: &[],
-};
-
-const LOCAL: CommandForms = CommandForms {
-    needed: &[
-        Form::Name,
-        Form::Name,
-        Form::Seed,
-        Form::Session,
-        Form::Sizes,
-    ],
-    optional: &[Form::Output { from: 1, to: 3 }],
-};
-
-const SEND: CommandForms = CommandForms {
-    needed: &[Form::Name, Form::Name, Form::Name],
-    optional: &[],
-};
-
-const RECEIVE: CommandForms = CommandForms {
-    needed: &[
-        Form::Name,
-        Form::Name,
-        Form::Name,
-        Form::Output { from: 2, to: 4 },
-    ],
-    optional: &[],
-};
-
-const MAKE: CommandForms = CommandForms {
-    needed: &[
-        Form::Count,
-        Form::Shared,
-        Form::Session,
-        Form::Name,
-        Form::Output { from: 4, to: 5 },
-    ],
-    optional: &[],
-};
-
-const TRIAL: CommandForms = CommandForms {
-    needed: &[Form::Count, Form::Shared, Form::Seed],
-    optional: &[],
-};
-
-const AUDIT: CommandForms = CommandForms {
-    needed: &[Form::Name, Form::Name, Form::Name, Form::Name, Form::Name],
-    optional: &[],
-};
-
-const TWIN: CommandForms = CommandForms {
-    needed: &[
-        Form::Name,
-        Form::Name,
-        Form::Name,
-        Form::Name,
-        Form::Output { from: 1, to: 5 },
-        Form::Output { from: 1, to: 6 },
-    ],
-    optional: &[],
-};
-
-const RENEW: CommandForms = CommandForms {
-    needed: &[Form::Name, Form::Output { from: 1, to: 2 }],
-    optional: &[],
-};
-
-impl Command {
-    ghost use Rattle.psi_words.specs.Form.{forms_seen};
-
-    // The forms of the words after the command's name.
-    fn forms(self) -> CommandForms
-        ensures forms { Some (forms_seen result) ≡ forms_of (name_of self) }
-        ensures few { length result.needed.now + length result.optional.now ≤ 8 }
-    {
-        match self {
-            Command::Deal => DEAL,
-            Command::Local => LOCAL,
-            Command::Send => SEND,
-            Command::Receive => RECEIVE,
-            Command::Make => MAKE,
-            Command::Trial => TRIAL,
-            Command::Audit => AUDIT,
-            Command::Twin => TWIN,
-            Command::Renew => RENEW,
-        }
-    }
 }
 
 impl Form {
@@ -200,34 +80,6 @@ pub fn word_at<'a>(words: &'a Words, at: usize) -> &'a str
     }
 }
 
-/// The command that the first word names.
-pub fn named_command(words: &Words) -> Option<Command>
-    ensures { result ≡ command_of words.now }
-{
-    let name = word_at(words, 0);
-    if name == "local" {
-        Some(Command::Local)
-    } else if name == "deal" {
-        Some(Command::Deal)
-    } else if name == "send" {
-        Some(Command::Send)
-    } else if name == "receive" {
-        Some(Command::Receive)
-    } else if name == "make" {
-        Some(Command::Make)
-    } else if name == "trial" {
-        Some(Command::Trial)
-    } else if name == "audit" {
-        Some(Command::Audit)
-    } else if name == "twin" {
-        Some(Command::Twin)
-    } else if name == "renew" {
-        Some(Command::Renew)
-    } else {
-        None
-    }
-}
-
 // The least place from `at` on whose word is out of form or one too many, where each may be missing.
 fn bad_optional(words: &Words, forms: &[Form], at: u32) -> Option<u32>
     requires { at + length forms.now < 100 }
@@ -259,15 +111,10 @@ fn bad_from(words: &Words, needed: &[Form], optional: &[Form], at: u32) -> Optio
     }
 }
 
-/// The least place, counted from 0, whose word fails the form of the command that the first word names.
-pub fn bad_word(words: &Words) -> Option<u32>
-    ensures { result ≡ bad_word words.now }
+/// The least place, counted from 0, whose word fails the forms of the words after a command's name.
+pub fn bad_word(words: &Words, forms: CommandForms) -> Option<u32>
+    requires few { length forms.needed.now + length forms.optional.now ≤ 8 }
+    ensures { result ≡ bad_word (forms_seen forms) words.now }
 {
-    match named_command(words) {
-        None => Some(0),
-        Some(command) => {
-            let forms = command.forms();
-            bad_from(words, forms.needed, forms.optional, 1)
-        }
-    }
+    bad_from(words, forms.needed, forms.optional, 1)
 }

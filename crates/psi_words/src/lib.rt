@@ -4,5 +4,5 @@
 mod form;
 mod values;
 
-pub use form::{Command, CommandForms, Form, bad_word, named_command, word_at};
+pub use form::{CommandForms, Form, bad_word, word_at};
 pub use values::{counts_of, seed_of, session_of, sizes_of};

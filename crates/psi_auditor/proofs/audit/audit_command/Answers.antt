@@ -1,11 +1,11 @@
 use Rattle.psi_auditor.specs.Audit.{audit_tree}
 use Rattle.psi_walk.specs.Tree.{ended}
 use Rattle.psi_walk.proofs.Walks.{run_of}
-use Rattle.psi_auditor.proofs.AuditLaws.{audit_promise}
+use Rattle.psi_auditor.proofs.AuditLaws.{audit_keeps}
 use Rattle.psi_auditor.proofs.audit.audit_command.Goals as goal
 
 pub returns-clause-promise : goal.returns-clause-promise
-returns-clause-promise g c =
-    audit_promise g.W.World.known c.args.words.now (g.W.World.outside c.args.world.now) (ended c.outcome_of.result (g.W.World.outside c.audit_steps.new.world))
+returns-clause-promise g c = λ fit.
+    audit_keeps g.W.World.known c.args.words.now (g.W.World.outside c.args.world.now) (ended c.outcome_of.result (g.W.World.outside c.audit_steps.new.world))
     (run_of g.W.World.known c.args.words.now audit_tree (g.W.World.outside c.args.world.now) (g.W.World.outside c.audit_steps.new.world) c.audit_steps.result c.outcome_of.result
     (c.outcome_of.ensures (g.W.World.outside c.audit_steps.new.world)) c.audit_steps.ensures)

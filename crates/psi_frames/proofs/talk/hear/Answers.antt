@@ -5,7 +5,7 @@ use Rattle.psi_frames.specs.declared.expect.Expect.{Expect}
 use Rattle.psi_frames.specs.declared.frame.Frame as lent
 use Rattle.psi_frames.specs.declared.reasons.BadFrame.{BadFrame}
 use Rattle.psi_frames.specs.declared.turns.EndFault.{EndFault}
-use Rattle.psi_frames.specs.Boxes.{Answers, InboxState, Leaves}
+use Rattle.psi_frames.specs.Boxes.{IsNext, InboxState, Leaves}
 use Rattle.psi_frames.specs.Converse.{Hears, KeepsFrame, Took}
 use Rattle.psi_frames.specs.Expected.{seen}
 use Rattle.psi_frames.specs.Script.{EndState, MayCome, after_taking, due_frame}
@@ -40,7 +40,7 @@ pub take-requires : goal.take-requires
 take-requires g c =
     let e = c.args.expect.now in
     let due = ap due_frame (ap g.E.End.state c.loop-inbox.invariant.same) ∙ c.requires.due in
-    let whole = subst (λ (r : Option lent.Frame). Answers c.receive.new.inbox e (Ok r)) c.in-Some.is c.in_ok-frame.ensures.answer in
+    let whole = subst (λ (r : Option lent.Frame). IsNext c.receive.new.inbox e (Ok r)) c.in-Some.is c.in_ok-frame.ensures.answer in
     subst (λ (o : Option Expect). MayCome o (seen c.in-Some.frame)) (sym due) (valid_of e c.receive.new.inbox.held (seen c.in-Some.frame) whole)
 
 pub returns-in_err-take : goal.returns-in_err-take
@@ -50,7 +50,7 @@ returns-in_err-take g c =
     let state = g.E.End.state in
     let e = c.args.expect.now in
     let on = came_on known e c.args.inbox.now c.loop-inbox.inbox c.receive.new.inbox (outside c.args.world.now) (outside c.loop-inbox.world) (outside c.receive.new.world) c.loop-inbox.invariant.came c.in_ok-receive.ensures.fills in
-    let whole = subst (λ (r : Option lent.Frame). Answers c.receive.new.inbox e (Ok r)) c.in-Some.is c.in_ok-frame.ensures.answer in
+    let whole = subst (λ (r : Option lent.Frame). IsNext c.receive.new.inbox e (Ok r)) c.in-Some.is c.in_ok-frame.ensures.answer in
     let failed = err_from_is_err_and c.from_residual-in_err-take.result c.from_residual-in_err-take.ensures.1 in
     subst (λ (r : Result (Unit {0}) EndFault). Hears known e (KeepsFrame (g.E.End.keeps c.args.end.now) (g.E.End.keeps c.take.new.self)) (state c.args.end.now) c.args.inbox.now (outside c.args.world.now) r (state c.take.new.self) c.next.follows.lender-at-none (outside c.receive.new.world))
     (sym (failed.1 ∙ ap (λ (e : EndFault). Err e) failed.2))
@@ -79,7 +79,7 @@ loop-inbox-preserved g c =
     let known = g.W.World.known in
     let e = c.args.expect.now in
     let on = came_on known e c.args.inbox.now c.loop-inbox.inbox c.receive.new.inbox (outside c.args.world.now) (outside c.loop-inbox.world) (outside c.receive.new.world) c.loop-inbox.invariant.came c.in_ok-receive.ensures.fills in
-    let begun = subst (λ (r : Option lent.Frame). Answers c.receive.new.inbox e (Ok r)) c.in_default.is c.in_ok-frame.ensures.answer in
+    let begun = subst (λ (r : Option lent.Frame). IsNext c.receive.new.inbox e (Ok r)) c.in_default.is c.in_ok-frame.ensures.answer in
     let left = subst (λ (r : Result (Option lent.Frame) BadFrame). Leaves c.receive.new.inbox e r c.next.follows.lender-at-none)
     (c.in_ok-frame.was ∙ ap (λ (r : Option lent.Frame). Ok r) c.in_default.is) c.next.follows.holds-at-none in
     record {

@@ -2,7 +2,7 @@ use Rattle.std.proofs.Common.{Option, subst}
 use Rattle.std.specs.declared.result.Result.{Result}
 use Rattle.psi_frames.specs.declared.frame.Frame as lent
 use Rattle.psi_frames.specs.declared.reasons.BadFrame.{BadFrame}
-use Rattle.psi_frames.specs.Boxes.{Answers, Leaves}
+use Rattle.psi_frames.specs.Boxes.{IsNext, Leaves}
 use Rattle.psi_frames.specs.Expected.{seen}
 use Rattle.psi_session.proofs.Passing.{held_whole, is_read, lent_whole, owed_enough, passed_by}
 use Rattle.psi_frames.proofs.Judged.{one_frame}
@@ -17,7 +17,7 @@ returns-clause-passed g c =
     let takes = c.in_ok-take.ensures in
     let f = c.requires.sends.0 in
     let whole = held_whole e f from to c.args.inbox.now c.fill.new.inbox c.requires.due c.requires.sends.1 sent.filled in
-    let read = subst (λ (r : Result (Option lent.Frame) BadFrame). Answers c.fill.new.inbox e r) (is_read c.next.result c.in-Ok-Some.field-0 c.in-Ok-Some.frame c.in-Ok-Some.is c.in-Ok-Some.field-0-is) c.next.ensures.answer in
+    let read = subst (λ (r : Result (Option lent.Frame) BadFrame). IsNext c.fill.new.inbox e r) (is_read c.next.result c.in-Ok-Some.field-0 c.in-Ok-Some.frame c.in-Ok-Some.is c.in-Ok-Some.field-0-is) c.next.ensures.answer in
     passed_by e f c.in-Ok-Some.frame from to (g.F.End.keeps c.args.from.now) (g.F.End.keeps c.fill.new.from) (g.G.End.keeps c.args.to.now) (g.G.End.keeps c.take.new.self)
     (g.T.Transcript.hears c.args.transcript.now) (g.T.Transcript.hears c.fill.new.transcript) (g.F.End.state c.fill.new.from) (g.G.End.state c.take.new.self) c.requires.due c.requires.sends.1
     (one_frame e c.fill.new.inbox.held (seen c.in-Ok-Some.frame) f read whole) sent.keeps takes.keeps sent.heard sent.state takes.taken

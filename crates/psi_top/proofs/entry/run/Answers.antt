@@ -1,6 +1,6 @@
 use Rattle.psi_walk.specs.Tree.{ended}
-use Rattle.psi_top.proofs.Headline.{answers_found, answers_hidden, answers_hides, answers_shown, answers_wired}
-use Rattle.psi_top.proofs.Laws.{answers_bad_words, answers_complete, answers_counted, answers_done, answers_exact, answers_of_command, answers_stand, answers_through}
+use Rattle.psi_top.proofs.Headline.{answers_found, answers_hidden, answers_hides, answers_shown}
+use Rattle.psi_top.proofs.Laws.{answers_bad_words, answers_complete, answers_counted, answers_done, answers_exact, answers_of_command, answers_stand, answers_through, answers_wired}
 use Rattle.psi_top.proofs.entry.run.Goals as goal
 
 pub returns-clause-bad_words : goal.returns-clause-bad_words

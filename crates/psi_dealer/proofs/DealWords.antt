@@ -1,10 +1,8 @@
 -- What the words of `deal` say.
-use Rattle.std.proofs.Common.{◌≡◌, ℕ, true, List, [], ◌∷◌, Some, None}
+use Rattle.std.proofs.Common.{◌≡◌, ℕ, true, List, [], ◌∷◌, None}
 use Rattle.psi_words.specs.Words.{alone, are_sizes, bad_word, is_name, is_output, is_seed, is_session, word_at}
-use Rattle.psi_words.specs.Form.{command_of}
-use Rattle.psi_words.specs.declared.form.Command.TheVariants.{Deal}
-use Rattle.psi_words.proofs.LocalWords.{bad_from-none}
-use Rattle.psi_words.proofs.NamedWords.{forms_fit}
+use Rattle.psi_words.proofs.InForm.{bad_from-none}
+use Rattle.psi_dealer.specs.Commands.{deal_forms}
 
 -- the words of `deal` have their forms
 pub record IsDealing (words : List (List ℕ)) : Type 0 where
@@ -12,12 +10,12 @@ pub record IsDealing (words : List (List ℕ)) : Type 0 where
   pub session : is_session (word_at words 2) ≡ true
   pub sizes : are_sizes (word_at words 3) ≡ true
 
-pub deal_words : (words : List (List ℕ)) → bad_word words ≡ None → command_of words ≡ Some Deal → IsDealing words
-deal_words words fit named =
+pub deal_words : (words : List (List ℕ)) → bad_word deal_forms words ≡ None → IsDealing words
+deal_words words fit =
     let name = alone is_name in
     let sizes = alone are_sizes in
     let session = alone is_session in
-    let first = bad_from-none (alone is_seed) (session ∷ sizes ∷ name ∷ is_output 4 5 ∷ []) [] words 1 (forms_fit words Deal fit named) in
+    let first = bad_from-none (alone is_seed) (session ∷ sizes ∷ name ∷ is_output 4 5 ∷ []) [] words 1 fit in
     let second = bad_from-none session (sizes ∷ name ∷ is_output 4 5 ∷ []) [] words 2 first.1 in
     let third = bad_from-none sizes (name ∷ is_output 4 5 ∷ []) [] words 3 second.1 in
     record { seed = first.0; session = second.0; sizes = third.0 }
