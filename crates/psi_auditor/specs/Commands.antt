@@ -21,6 +21,6 @@ command_audit = record {
   promise = AuditPromise;
 }
 
--- as a list
+-- all of them
 abbrev pub auditor_commands : List Command
 auditor_commands = command_audit ∷ []

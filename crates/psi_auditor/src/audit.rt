@@ -1,15 +1,14 @@
 // The audit of a recorded session.
 
-ghost use Rattle.psi_walk.specs.Command.{Answers, KeepsInForm};
-ghost use Rattle.psi_auditor.specs.Commands.{command_audit};
+ghost use Rattle.std.specs.Prelude.{◌≤◌, List, ℕ, length};
 ghost use Rattle.psi_spec.specs.Frames.{AreBytes};
 ghost use Rattle.psi_spec.specs.Limits.{record_limit};
-ghost use Rattle.std.specs.Prelude.{◌≤◌, List, ℕ, length};
-ghost use Rattle.psi_auditor.specs.Audit.{audit_record, audit_session, audit_tree, findings_of};
+ghost use Rattle.psi_walk.specs.Command.{Answers, KeepsInForm};
 ghost use Rattle.psi_walk.specs.Files.{record_in};
 ghost use Rattle.psi_walk.specs.Tree.{decides, end_of, ended};
 ghost use Rattle.psi_walk.specs.Walk.{Runs, Settles};
-ghost use Rattle.psi_auditor.specs.AuditPromises.{AuditPromise};
+ghost use Rattle.psi_auditor.specs.Commands.{command_audit};
+ghost use Rattle.psi_auditor.specs.Audit.{audit_record, audit_session, audit_tree, findings_of};
 
 use crate::findings::{Findings, print_findings};
 use psi_audit::{Verdict, audit};

@@ -1,9 +1,9 @@
 // What the audit of a consistent record shows, and its text. Printing takes no memory.
 ghost use Rattle.std.specs.Prelude.{◌≡◌, ◌≤◌, ◌++◌, Bool, List, ℕ, codes, length};
 ghost use Rattle.psi_base.specs.Outside.{PrintsAll};
-ghost use Rattle.psi_auditor.specs.Audit.{audit_text, collision_line, collision_lines, number_line};
 ghost use Rattle.psi_walk.specs.Tree.{says};
 ghost use Rattle.psi_walk.specs.Walk.{Makes};
+ghost use Rattle.psi_auditor.specs.Audit.{audit_text, collision_line, collision_lines, number_line};
 
 use psi_base::{Fault, Pairs, Places, World, print_all};
 use psi_texts::{Line, Status};

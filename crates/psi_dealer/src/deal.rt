@@ -1,11 +1,11 @@
 // The two deal files of a seed.
+ghost use Rattle.std.specs.Prelude.{◌≡◌, IfOk, None, Some};
 ghost use Rattle.psi_words.specs.Words.{bad_word};
 ghost use Rattle.psi_walk.specs.Command.{Answers, KeepsInForm};
-ghost use Rattle.psi_dealer.specs.Commands.{command_deal, deal_forms};
-ghost use Rattle.std.specs.Prelude.{◌≡◌, IfOk, None, Some};
-ghost use Rattle.psi_dealer.specs.Deal.{deal_receiver, deal_sender, deal_tree, DealPromise};
 ghost use Rattle.psi_walk.specs.Tree.{end_of, ended};
 ghost use Rattle.psi_walk.specs.Walk.{Runs};
+ghost use Rattle.psi_dealer.specs.Commands.{command_deal, deal_forms};
+ghost use Rattle.psi_dealer.specs.Deal.{deal_receiver, deal_sender, deal_tree};
 
 use psi_base::{NoMemory, Words, World};
 use psi_deal::{ReceiverDeal, SenderDeal, deal, write_receiver, write_sender};

@@ -1,10 +1,9 @@
 // A deal file of version 1, made anew.
 ghost use Rattle.psi_walk.specs.Command.{Answers, KeepsInForm};
-ghost use Rattle.psi_dealer.specs.Commands.{command_renew};
-ghost use Rattle.psi_dealer.specs.Renew.{renew_tree};
 ghost use Rattle.psi_walk.specs.Tree.{end_of, ended};
 ghost use Rattle.psi_walk.specs.Walk.{Runs};
-ghost use Rattle.psi_dealer.specs.RenewPromises.{RenewPromise};
+ghost use Rattle.psi_dealer.specs.Commands.{command_renew};
+ghost use Rattle.psi_dealer.specs.Renew.{renew_tree};
 
 use psi_base::{Words, World};
 use psi_texts::Status;

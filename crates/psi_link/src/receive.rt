@@ -1,6 +1,4 @@
 // The receiver's end of a session.
-ghost use Rattle.psi_walk.specs.Command.{Answers, KeepsInForm};
-ghost use Rattle.psi_link.specs.Commands.{command_receive};
 ghost use Rattle.std.specs.Prelude.{◌≡◌, ◌∷◌, [], ℕ, List, true, IfErr, IfOk, IsTrue, None, OnOk, length, map};
 ghost use Rattle.psi_spec.specs.DealFiles.{sealed};
 ghost use Rattle.psi_spec.specs.Deals.{IsReceiverDeal};
@@ -11,14 +9,15 @@ ghost use Rattle.psi_spec.specs.Meeting.{placed_of};
 ghost use Rattle.psi_spec.specs.Placement.{IsPlacementOf};
 ghost use Rattle.psi_spec.specs.Records.{record_front};
 ghost use Rattle.psi_spec.specs.Texts.{lines_text};
+ghost use Rattle.psi_texts.specs.declared.status.Status.TheVariants as status;
 ghost use Rattle.psi_receiver.specs.Laws.{receiver_dialogue};
 ghost use Rattle.psi_receiver.specs.Running.{IsNewReceiver};
-ghost use Rattle.psi_link.specs.Receive.{IsHeard, receive_rest, receive_tree};
+ghost use Rattle.psi_walk.specs.Command.{Answers, KeepsInForm};
 ghost use Rattle.psi_walk.specs.Placing.{placing_of};
 ghost use Rattle.psi_walk.specs.Tree.{end_of, ended, ends, places, puts, says, stopped};
 ghost use Rattle.psi_walk.specs.Walk.{Follows, Runs, StepsTalk, status_of};
-ghost use Rattle.psi_texts.specs.declared.status.Status.TheVariants as status;
-ghost use Rattle.psi_link.specs.HidingPromises.{ReceivePromise};
+ghost use Rattle.psi_link.specs.Commands.{command_receive};
+ghost use Rattle.psi_link.specs.Receive.{IsHeard, receive_rest, receive_tree};
 
 use psi_base::{Side, Words, World};
 use psi_cuckoo::Placement;

@@ -1,13 +1,12 @@
 // The sender's end of a session.
-ghost use Rattle.psi_walk.specs.Command.{Answers, KeepsInForm};
-ghost use Rattle.psi_link.specs.Commands.{command_send};
 ghost use Rattle.std.specs.Prelude.{ℕ, List, IsTrue};
 ghost use Rattle.psi_spec.specs.Deals.{IsSenderDeal};
 ghost use Rattle.psi_sender.specs.Laws.{sender_dialogue};
-ghost use Rattle.psi_link.specs.Send.{send_tree};
+ghost use Rattle.psi_walk.specs.Command.{Answers, KeepsInForm};
 ghost use Rattle.psi_walk.specs.Tree.{end_of, ended};
 ghost use Rattle.psi_walk.specs.Walk.{Runs, StepsTalk};
-ghost use Rattle.psi_link.specs.SendPromises.{SendPromise};
+ghost use Rattle.psi_link.specs.Commands.{command_send};
+ghost use Rattle.psi_link.specs.Send.{send_tree};
 
 use psi_base::{Side, Words, World};
 use psi_deal::SenderDeal;

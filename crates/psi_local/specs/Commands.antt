@@ -8,8 +8,8 @@ use Rattle.psi_local.specs.Make.{MakePromise, make_tree}
 use Rattle.psi_local.specs.Trial.{trial_tree}
 use Rattle.psi_local.specs.TrialPromises.{TrialPromise}
 
--- the words after `local`: the receiver's file, the sender's file, the seed, the session and the sizes; and, where it is
--- there, the record, which is neither file
+-- the words after `local`: the receiver's file, the sender's file, the seed, the session and the sizes; and, where it
+-- is there, the record, which is neither file
 abbrev pub local_forms : Forms
 local_forms = record {
   needed = alone is_name ∷ alone is_name ∷ alone is_seed ∷ alone is_session ∷ alone are_sizes ∷ [];

@@ -1,18 +1,17 @@
 // Both ends of a session in one run.
-ghost use Rattle.psi_words.specs.Words.{bad_word};
-ghost use Rattle.psi_walk.specs.Command.{Answers, KeepsInForm};
-ghost use Rattle.psi_local.specs.Commands.{command_local, local_forms};
 ghost use Rattle.std.specs.Prelude.{◌≡◌, ◌∷◌, Bool, List, ℕ, IfOk, Some, None, length};
 ghost use Rattle.sha2.specs.Hashers.{Holds256};
 ghost use Rattle.sha2.specs.Sha256.{sha256};
 ghost use Rattle.psi_spec.specs.Deals.{ArePair, IsReceiverDeal, IsSenderDeal};
 ghost use Rattle.psi_spec.specs.Hits.{marked};
 ghost use Rattle.psi_spec.specs.Texts.{lines_text};
-ghost use Rattle.psi_local.specs.Local.{local_receiver, local_sender, local_set, local_tree};
-ghost use Rattle.psi_local.specs.Transcript.{writes};
+ghost use Rattle.psi_words.specs.Words.{bad_word};
+ghost use Rattle.psi_walk.specs.Command.{Answers, KeepsInForm};
 ghost use Rattle.psi_walk.specs.Tree.{closed, end_of, ended, ends, says};
 ghost use Rattle.psi_walk.specs.Walk.{MakesAll, Runs};
-ghost use Rattle.psi_local.specs.LocalPromises.{LocalPromise};
+ghost use Rattle.psi_local.specs.Commands.{command_local, local_forms};
+ghost use Rattle.psi_local.specs.Local.{local_receiver, local_sender, local_set, local_tree};
+ghost use Rattle.psi_local.specs.Transcript.{writes};
 
 use crate::playing::{PlayedSession, placed_outcome, play, session_length};
 use crate::transcript::begin_record;

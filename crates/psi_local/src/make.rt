@@ -1,11 +1,11 @@
 // Two item files that are made by rule.
+ghost use Rattle.std.specs.Prelude.{◌≡◌, None, Some};
 ghost use Rattle.psi_words.specs.Words.{bad_word};
 ghost use Rattle.psi_walk.specs.Command.{Answers, KeepsInForm};
-ghost use Rattle.psi_local.specs.Commands.{command_make, make_forms};
-ghost use Rattle.std.specs.Prelude.{◌≡◌, None, Some};
-ghost use Rattle.psi_local.specs.Make.{make_tree, MakePromise};
 ghost use Rattle.psi_walk.specs.Tree.{end_of, ended};
 ghost use Rattle.psi_walk.specs.Walk.{Runs};
+ghost use Rattle.psi_local.specs.Commands.{command_make, make_forms};
+ghost use Rattle.psi_local.specs.Make.{make_tree};
 
 use psi_base::{Words, World};
 use psi_items::{MadeFile, make_file};

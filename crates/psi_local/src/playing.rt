@@ -4,9 +4,9 @@ ghost use Rattle.psi_spec.specs.Deals.{ArePair, IsReceiverDeal, IsSenderDeal};
 ghost use Rattle.psi_spec.specs.Formulas.{item_digest};
 ghost use Rattle.psi_spec.specs.Limits.{bins_for, limit_items};
 ghost use Rattle.psi_spec.specs.Placement.{IsPlacementOf};
-ghost use Rattle.psi_local.specs.Transcript.{IsPlayed, log_of, receiver_stream_size, sender_stream_size};
-ghost use Rattle.psi_walk.specs.Tree.{carrying, closed, ended};
 ghost use Rattle.psi_base.specs.Outside.{Outside};
+ghost use Rattle.psi_walk.specs.Tree.{carrying, closed, ended};
+ghost use Rattle.psi_local.specs.Transcript.{IsPlayed, log_of, receiver_stream_size, sender_stream_size};
 
 use crate::transcript::SessionTranscript;
 use psi_base::{NoMemory, rows};

@@ -1,18 +1,17 @@
 // Both ends of a session on made lists, in one run.
-ghost use Rattle.psi_words.specs.Words.{bad_word};
-ghost use Rattle.psi_walk.specs.Command.{Answers, KeepsInForm};
-ghost use Rattle.psi_local.specs.Commands.{command_trial, trial_forms};
 ghost use Rattle.std.specs.Prelude.{◌≡◌, ◌≤◌, ◌++◌, ◌∷◌, [], List, ℕ, IfOk, None, OnOk, Some, count_by};
 ghost use Rattle.sha2.specs.Hashers.{Holds256};
 ghost use Rattle.sha2.specs.Sha256.{sha256};
 ghost use Rattle.psi_spec.specs.Deals.{ArePair, IsReceiverDeal, IsSenderDeal};
 ghost use Rattle.psi_spec.specs.Limits.{limit_items};
+ghost use Rattle.psi_words.specs.Words.{bad_word};
 ghost use Rattle.psi_items.specs.Made.{made_items};
 ghost use Rattle.psi_items.specs.Making.{is_second};
+ghost use Rattle.psi_walk.specs.Command.{Answers, KeepsInForm};
 ghost use Rattle.psi_walk.specs.Tree.{closed, end_of, ended, ends, says};
-ghost use Rattle.psi_local.specs.Trial.{measured, numbered, summary_text, trial_receiver, trial_sender, trial_set, trial_tree};
 ghost use Rattle.psi_walk.specs.Walk.{Runs};
-ghost use Rattle.psi_local.specs.TrialPromises.{TrialPromise};
+ghost use Rattle.psi_local.specs.Commands.{command_trial, trial_forms};
+ghost use Rattle.psi_local.specs.Trial.{measured, numbered, summary_text, trial_receiver, trial_sender, trial_set, trial_tree};
 
 use crate::playing::{PlayedSession, placed_outcome, play, receiver_length, sender_length};
 use itoa::Buffer;

@@ -1,10 +1,10 @@
 // The top call.
-ghost use Rattle.psi_top.specs.Commands.{RunAnswers, bad_place, command_of, commands};
-ghost use Rattle.psi_top.specs.Headline.{LocalShows, ReceiveFinds, ReceiveHides, TwinHides};
-ghost use Rattle.psi_top.specs.Promises.{CountsBy, DoneLeaves, IsBadWords, IsOfCommand, IsWiredAs, OnTold, Promised, RunsThrough};
 ghost use Rattle.psi_walk.specs.Command.{CarriesOut};
 ghost use Rattle.psi_walk.specs.Promises.{Completes, IsDue, StandsAt};
 ghost use Rattle.psi_walk.specs.Tree.{ended};
+ghost use Rattle.psi_top.specs.Commands.{RunAnswers, bad_place, command_of, commands};
+ghost use Rattle.psi_top.specs.Headline.{LocalShows, ReceiveFinds, ReceiveHides, TwinHides};
+ghost use Rattle.psi_top.specs.Promises.{CountsBy, DoneLeaves, IsBadWords, IsOfCommand, IsWiredAs, OnTold, Promised, RunsThrough};
 
 use psi_base::{Words, World};
 use psi_texts::Status;

@@ -22,6 +22,6 @@ command_twin = record {
   promise = TwinPromise;
 }
 
--- as a list
+-- all of them
 abbrev pub twin_commands : List Command
 twin_commands = command_twin ∷ []

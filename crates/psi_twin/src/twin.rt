@@ -1,16 +1,15 @@
 // What the receiver sends of one list, and the columns over which it sends the same of another.
-ghost use Rattle.psi_walk.specs.Command.{Answers, KeepsInForm};
-ghost use Rattle.psi_twin.specs.Commands.{command_twin};
 ghost use Rattle.std.specs.Prelude.{◌≡◌, IfOk, None, OnOk, length};
 ghost use Rattle.psi_spec.specs.Limits.{bins_for, rows_for};
 ghost use Rattle.psi_spec.specs.Meeting.{placed_of};
 ghost use Rattle.psi_spec.specs.Placement.{IsPlacementOf};
 ghost use Rattle.psi_spec.specs.Streams.{words_of};
+ghost use Rattle.psi_walk.specs.Command.{Answers, KeepsInForm};
 ghost use Rattle.psi_walk.specs.Placing.{placing_of};
 ghost use Rattle.psi_walk.specs.Tree.{end_of, ended, ends, stopped};
-ghost use Rattle.psi_twin.specs.Twin.{PlacesAnd, files_of_words, twin_sets, twin_tree, twins_in};
 ghost use Rattle.psi_walk.specs.Walk.{Runs, Settles, status_of};
-ghost use Rattle.psi_twin.specs.TwinPromises.{TwinPromise};
+ghost use Rattle.psi_twin.specs.Commands.{command_twin};
+ghost use Rattle.psi_twin.specs.Twin.{PlacesAnd, files_of_words, twin_sets, twin_tree, twins_in};
 
 use crate::hiding::twin_files;
 use psi_base::{Words, World, rows};

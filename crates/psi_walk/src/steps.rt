@@ -3,8 +3,8 @@ ghost use Rattle.std.specs.Prelude.{◌≡◌, ◌≤◌, Bool, List, ℕ, IfOk,
 ghost use Rattle.psi_spec.specs.Deals.{IsReceiverDeal, IsSenderDeal};
 ghost use Rattle.psi_spec.specs.Frames.{AreBytes};
 ghost use Rattle.psi_spec.specs.Limits.{file_limit, record_limit};
-ghost use Rattle.psi_words.specs.Words.{word_at as word_of};
 ghost use Rattle.psi_base.specs.Outside.{as_list, link_to};
+ghost use Rattle.psi_words.specs.Words.{word_at as word_of};
 ghost use Rattle.psi_walk.specs.Files.{items_in, record_in, reads_items, reads_receiver, reads_sender, receiver_in, sender_in, old_deal_in, reads_old};
 ghost use Rattle.psi_walk.specs.Tree.{puts, says};
 ghost use Rattle.psi_walk.specs.Walk.{Makes, Settles, Steps, StepsOpen, StepsRead, status_of, talk_status};
