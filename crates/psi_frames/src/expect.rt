@@ -1,9 +1,16 @@
-// The one frame that may come next.
-ghost use Rattle.std.specs.Prelude.{◌≡◌};
-ghost use Rattle.psi_spec.specs.Columns.{column_bytes as bytes_for};
-ghost use Rattle.psi_frames.specs.Expected.{kind_of, payload_of, frame_length};
+// The one frame that may come next, and how its payload is judged and read. What each kind has stands in the file of its
+// kind.
+ghost use Rattle.std.specs.Prelude.{◌≡◌, length};
+ghost use Rattle.psi_spec.specs.Frames.{first_wrong};
+ghost use Rattle.psi_frames.specs.Expected.{FitsFloor, frame_length, kind_of, payload_fields, payload_frame as spec_frame, payload_of, seen};
 
-use crate::frame::{COLUMN, DONE, HEADER_LENGTH, HELLO_LENGTH, RECEIVER_HELLO, SENDER_HELLO, TAGS};
+use crate::column::{COLUMN, column_bytes, wrong_column};
+use crate::done::DONE;
+use crate::frame::Frame;
+use crate::header::HEADER_LENGTH;
+use crate::hello::{HELLO_LENGTH, RECEIVER_HELLO, SENDER_HELLO, count_of, wrong_hello};
+use crate::reasons::Reason;
+use crate::tags::{TAGS, wrong_tags};
 
 /// The one frame that may come next.
 #[derive(Clone, Copy, Debug, PartialEq, Eq)]
@@ -34,13 +41,6 @@ pub enum Expect {
     },
     /// The end of the session.
     Done,
-}
-
-/// How many bytes a column of so many rows has.
-pub(crate) fn column_bytes(rows: u32) -> u32
-    ensures { result ≡ bytes_for rows }
-{
-    rows.div_ceil(8)
 }
 
 impl Expect {
@@ -74,5 +74,55 @@ impl Expect {
         ensures { result ≡ frame_length self.now }
     {
         HEADER_LENGTH + self.payload() as usize
+    }
+}
+
+/// What is wrong with a payload.
+pub(crate) fn wrong_payload(expect: &Expect, payload: &[u8]) -> Option<Reason>
+    requires { FitsFloor expect.now }
+    ensures { result ≡ first_wrong (payload_fields expect.now) payload.now }
+{
+    match expect {
+        Expect::ReceiverHello { id, session } | Expect::SenderHello { id, session } => {
+            wrong_hello(id, *session, payload)
+        }
+        Expect::Column { index, rows } => wrong_column(*index, *rows, payload),
+        Expect::Tags {
+            list,
+            block,
+            tags,
+            width,
+            floor,
+        } => wrong_tags(*list, *block, *tags, *width, floor, payload),
+        Expect::Done => None,
+    }
+}
+
+/// The frame that a payload holds, where it is the expected one.
+pub(crate) fn payload_frame<'a>(expect: &Expect, payload: &'a [u8]) -> Frame<'a>
+    requires { length payload.now ≡ payload_of expect.now }
+    ensures { seen result ≡ spec_frame expect.now payload.now }
+{
+    match expect {
+        Expect::ReceiverHello { id, session } => Frame::ReceiverHello {
+            id: *id,
+            session: *session,
+            count: count_of(payload),
+        },
+        Expect::SenderHello { id, session } => Frame::SenderHello {
+            id: *id,
+            session: *session,
+            count: count_of(payload),
+        },
+        Expect::Column { index, .. } => Frame::Column {
+            index: *index,
+            bytes: &payload[2..],
+        },
+        Expect::Tags { list, block, .. } => Frame::Tags {
+            list: *list,
+            block: *block,
+            bytes: &payload[5..],
+        },
+        Expect::Done => Frame::Done,
     }
 }

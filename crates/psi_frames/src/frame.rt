@@ -1,24 +1,14 @@
-// Frames.
+// Frames, and how one is written. What each kind has stands in the file of its kind.
+ghost use Rattle.std.specs.Prelude.{◌≡◌, ◌≤◌, length};
+ghost use Rattle.psi_spec.specs.Frames.{layout};
+ghost use Rattle.psi_frames.specs.Boxes.{with_added};
+ghost use Rattle.psi_frames.specs.Expected.{seen};
 
-// The kinds of frames, each the first byte of its frames.
-pub(crate) const RECEIVER_HELLO: u8 = 1;
-
-pub(crate) const SENDER_HELLO: u8 = 2;
-
-pub(crate) const COLUMN: u8 = 3;
-
-pub(crate) const TAGS: u8 = 4;
-
-pub(crate) const DONE: u8 = 5;
-
-/// The one version of the frames.
-pub(crate) const VERSION: u8 = 1;
-
-/// The bytes before a payload: the kind, and the length of the payload.
-pub(crate) const HEADER_LENGTH: usize = 5;
-
-/// The bytes of a hello's payload.
-pub(crate) const HELLO_LENGTH: usize = 29;
+use crate::column::put_column;
+use crate::done::put_done;
+use crate::hello::{RECEIVER_HELLO, SENDER_HELLO, put_hello};
+use crate::outbox::Outbox;
+use crate::tags::put_tags;
 
 /// A frame. Its bytes are lent.
 #[derive(Clone, Copy, Debug, PartialEq, Eq)]
@@ -48,4 +38,30 @@ pub enum Frame<'a> {
     },
     /// The end of the session.
     Done,
+}
+
+/// Adds the bytes of a frame. The outbox has room to spare for them.
+pub fn put(out: &mut Outbox, frame: &Frame<'_>)
+    requires { length (layout (seen frame.now)) ≤ out.old.spare }
+    ensures { out.new ≡ with_added (layout (seen frame.now)) out.old }
+{
+    match frame {
+        Frame::ReceiverHello { id, session, count } => put_hello(
+            out,
+            RECEIVER_HELLO,
+            id,
+            *session,
+            *count,
+        ),
+        Frame::SenderHello { id, session, count } => put_hello(
+            out,
+            SENDER_HELLO,
+            id,
+            *session,
+            *count,
+        ),
+        Frame::Column { index, bytes } => put_column(out, *index, bytes),
+        Frame::Tags { list, block, bytes } => put_tags(out, *list, *block, bytes),
+        Frame::Done => put_done(out),
+    }
 }

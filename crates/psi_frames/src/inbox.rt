@@ -7,11 +7,10 @@ ghost use Rattle.psi_frames.specs.contracts.inbox.Inbox.{the_row};
 ghost use Rattle.psi_frames.specs.Boxes.{IsNext, Leaves, MayExpect, after_feed, missing_of, taken_of};
 
 use crate::expect::Expect;
-use crate::fields::first_fault;
 use crate::frame::Frame;
+use crate::judging::{first_fault, frame_of};
 use crate::reasons::BadFrame;
 use crate::room::write_at;
-use crate::whole::frame_of;
 use psi_base::{INBOX_ROOM, NoMemory};
 use std::alloc::Global;
 use std::marker::Model;

@@ -1,6 +1,6 @@
 // Why a frame is refused.
 ghost use Rattle.std.specs.Prelude.{◌≡◌};
-ghost use Rattle.psi_frames.specs.Expected.{number_of_reason};
+ghost use Rattle.psi_frames.specs.Reasons.{number_of_reason};
 
 /// What is wrong with a field: the value that was found, and the one that was wanted.
 #[derive(Clone, Copy, Debug, PartialEq, Eq)]

@@ -1,6 +1,33 @@
-// One tag of a block.
-ghost use Rattle.std.specs.Prelude.{◌≡◌, ◌+◌, ◌*◌, ◌≤◌, length, take, drop};
+// Blocks of tags: kind 4. The payload is the number of the list, the number of the block and its tags, one after another,
+// which rise.
+ghost use Rattle.std.specs.Prelude.{◌≡◌, ◌+◌, ◌*◌, ◌≤◌, [], ◌∷◌, length, take, drop};
 ghost use Rattle.psi_spec.specs.Formulas.{padded};
+ghost use Rattle.psi_spec.specs.Frames.{first_wrong, layout, tags_frame};
+ghost use Rattle.psi_spec.specs.Frames as spec;
+ghost use Rattle.psi_frames.specs.Boxes.{with_added};
+ghost use Rattle.psi_frames.specs.Tags.{lists_size, tags_field, tags_fields};
+
+use crate::header::put_header;
+use crate::outbox::Outbox;
+use crate::reasons::Reason;
+
+/// The kind of a block of tags.
+pub(crate) const TAGS: u8 = 4;
+
+/// The most tags of a frame.
+pub const BLOCK_TAGS: u32 = 1024;
+
+/// The bytes of the frame of a block of tags before the tags.
+pub const TAGS_HEAD: u32 = 10;
+
+/// How many bytes the frames of so many lists have, each of `count` tags of `width` bytes.
+pub fn lists_size(lists: u8, width: u8, count: u32) -> u64
+    ensures { result ≡ lists_size lists width count }
+{
+    let heads = u64::from(TAGS_HEAD) * u64::from(count.div_ceil(BLOCK_TAGS));
+    let tags = u64::from(width) * u64::from(count);
+    u64::from(lists) * (heads + tags)
+}
 
 /// The tag at the place `index`, counted from 0, of tags of `width` bytes each, one after another, with
 /// zeros behind it. `width` is at most 16, and there are more than `index` tags.
@@ -14,4 +41,79 @@ pub fn tag_at(bytes: &[u8], width: u8, index: u16) -> [u8; 16]
     let mut tag = [0; 16];
     tag[..width].copy_from_slice(&bytes[start..start + width]);
     tag
+}
+
+/// Adds a block of tags.
+pub(crate) fn put_tags(out: &mut Outbox, list: u8, block: u32, bytes: &[u8])
+    requires { 10 + length bytes.now ≤ out.old.spare }
+    ensures { out.new ≡ with_added (layout (tags_frame list block bytes.now)) out.old }
+{
+    put_header(out, TAGS, 5 + bytes.len());
+    out.add(&[list]);
+    out.add(&block.to_be_bytes());
+    out.add(bytes);
+}
+
+// Whether a tag is below another, compared from the first byte on.
+fn is_below(tag: &[u8], other: &[u8]) -> bool
+    ensures { result ≡ spec.is_below tag.now other.now }
+{
+    tag.cmp(other).is_lt()
+}
+
+// The place of the first of so many tags that is below the tag before it; `floor` is before the first.
+fn first_below(floor: &[u8], tags: &[u8], count: u16, width: usize) -> Option<u16>
+    requires { length tags.now ≡ count * width }
+    ensures { result ≡ spec.first_below floor.now (spec.tags_of count width tags.now) }
+{
+    let mut before = floor;
+    let mut rest = tags;
+    for at in 0..count {
+        let (tag, later) = rest.split_at(width);
+        if is_below(tag, before) {
+            return Some(at);
+        }
+        before = tag;
+        rest = later;
+    }
+    None
+}
+
+// What is wrong with the order of tags.
+fn wrong_order(count: u16, width: usize, floor: &[u8; 16], tags: &[u8]) -> Option<Reason>
+    requires { width ≤ 16 }
+    ensures { result ≡ first_wrong (tags_field count width floor.now ∷ []) tags.now }
+{
+    let (tags, _) = tags.split_at_checked(usize::from(count) * width)?;
+    first_below(&floor[..width], tags, count, width).map(|at| Reason::Order { at })
+}
+
+/// What is wrong with the payload of a block of tags.
+pub(crate) fn wrong_tags(
+    list: u8,
+    block: u32,
+    tags: u16,
+    width: u8,
+    floor: &[u8; 16],
+    payload: &[u8],
+) -> Option<Reason>
+    requires { width ≤ 16 }
+    ensures { result ≡ first_wrong (tags_fields list block tags width floor.now) payload.now }
+{
+    let (found, rest) = payload.split_first()?;
+    if *found != list {
+        return Some(Reason::List {
+            found: *found,
+            wanted: list,
+        });
+    }
+    let (found, rest) = rest.split_first_chunk::<4>()?;
+    let found = u32::from_be_bytes(*found);
+    if found != block {
+        return Some(Reason::Index {
+            found,
+            wanted: block,
+        });
+    }
+    wrong_order(tags, usize::from(width), floor, rest)
 }

@@ -12,7 +12,10 @@ use Rattle.psi_frames.specs.declared.reasons.Reason.TheVariants as reason
 use Rattle.psi_frames.specs.declared.expect.Expect.TheVariants as expect
 use Rattle.psi_frames.specs.declared.frame.Frame as lent
 use Rattle.psi_frames.specs.declared.frame.Frame.TheVariants as frame
-use Rattle.psi_frames.specs.Expected.{IsValid, seen, wrong, kind_field, length_field, version_field, deal_field, session_field, count_field, index_field, list_field, tags_field, hello_fields, number_fields, tags_fields}
+use Rattle.psi_frames.specs.Fields.{kind_field, length_field, index_field}
+use Rattle.psi_frames.specs.Hello.{version_field, deal_field, session_field, count_field, hello_fields, number_fields}
+use Rattle.psi_frames.specs.Tags.{list_field, tags_field, tags_fields}
+use Rattle.psi_frames.specs.Expected.{IsValid, seen, wrong}
 use Rattle.psi_frames.proofs.FrameAt.{frame_at_layout}
 use Rattle.psi_receiver.specs.Script.{bytes_in, count_in}
 

@@ -14,7 +14,10 @@ use Rattle.psi_frames.specs.declared.reasons.Reason.TheVariants as reason
 use Rattle.psi_frames.specs.declared.expect.Expect.TheVariants as expect
 use Rattle.psi_frames.specs.declared.frame.Frame as lent
 use Rattle.psi_frames.specs.declared.frame.Frame.TheVariants as frame
-use Rattle.psi_frames.specs.Expected.{IsValid, seen, wrong, kind_field, length_field, version_field, deal_field, session_field, count_field, index_field, column_field, hello_fields, number_fields, column_fields}
+use Rattle.psi_frames.specs.Fields.{kind_field, length_field, index_field}
+use Rattle.psi_frames.specs.Hello.{version_field, deal_field, session_field, count_field, hello_fields, number_fields}
+use Rattle.psi_frames.specs.Column.{column_field, column_fields}
+use Rattle.psi_frames.specs.Expected.{IsValid, seen, wrong}
 use Rattle.psi_frames.proofs.FrameAt.{frame_at_layout}
 use Rattle.psi_sender.specs.Script.{count_in, bytes_in}
 

@@ -8,7 +8,7 @@ use Rattle.psi_cuckoo.specs.declared.errors.BadSlots.{BadSlots as SlotsFault}
 use Rattle.psi_cuckoo.specs.declared.errors.BadSlots.TheVariants as slots
 use Rattle.psi_deal.specs.declared.errors.DealField.{DealField}
 use Rattle.psi_deal.specs.declared.errors.DealField.TheVariants as deal_field
-use Rattle.psi_frames.specs.Expected.{number_of_reason}
+use Rattle.psi_frames.specs.Reasons.{number_of_reason}
 use Rattle.psi_frames.specs.declared.reasons.BadFrame.{BadFrame as RefusedFrame}
 use Rattle.psi_log.specs.declared.errors.BadRecord.{BadRecord as RecordFault}
 use Rattle.psi_log.specs.declared.errors.BadRecord.TheVariants as record_fault

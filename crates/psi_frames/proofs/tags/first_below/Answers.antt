@@ -1,7 +1,7 @@
 use Rattle.std.proofs.Common.{◌∙◌, ◌<◌, ◌≤◌, ◌≡◌, ◌-◌, ◌*◌, ℕ, true, false, sym, ap, arith}
 use Rattle.psi_spec.specs.Frames.{is_below}
 use Rattle.psi_frames.proofs.Rising.{long_more, first_start, first_here, first_later, first_end}
-use Rattle.psi_frames.proofs.fields.first_below.Goals as goal
+use Rattle.psi_frames.proofs.tags.first_below.Goals as goal
 
 pub loop-at-init : goal.loop-at-init
 loop-at-init c = record {

@@ -1,7 +1,7 @@
 use Rattle.std.proofs.Common.{◌≡◌, ◌*◌, ◌-◌, length}
 use Rattle.psi_spec.specs.Frames as spec
 use Rattle.psi_spec.proofs.Frames.{below_from}
-use Rattle.psi_frames.proofs.fields.first_below.Given as goal
+use Rattle.psi_frames.proofs.tags.first_below.Given as goal
 
 -- the first of the tags that are left is the first of all
 abbrev pub invariant-loop-at : goal.invariant-loop-at
