@@ -1,7 +1,6 @@
 -- The transcript of a session in memory, and a session that was run whole.
 use Rattle.std.specs.Prelude.{◌≡◌, ◌+◌, ◌*◌, ℕ, List, [], ◌∷◌, ◌++◌, Option, Some, None, length, nat_lt, option_map, if◌then◌else◌}
 use Rattle.sha2.specs.Hashers.{Holds256}
-use Rattle.psi_spec.specs.Columns.{column_bytes}
 use Rattle.psi_spec.specs.DealFiles.{sealed}
 use Rattle.psi_spec.specs.Deals.{ReceiverDeal, SenderDeal}
 use Rattle.psi_spec.specs.Limits.{rows_for}
@@ -9,7 +8,8 @@ use Rattle.psi_spec.specs.Meeting.{placed_of}
 use Rattle.psi_spec.specs.Placement.{Slot}
 use Rattle.psi_spec.specs.Records.{record_front}
 use Rattle.psi_spec.specs.Sessions.{session_bytes}
-use Rattle.psi_spec.specs.Streams.{blocks_for}
+use Rattle.psi_frames.specs.Column.{columns_size}
+use Rattle.psi_frames.specs.Tags.{lists_size}
 use Rattle.psi_log.specs.Recording.{RecorderState}
 use Rattle.psi_receiver.specs.Receiving.{hits_of}
 use Rattle.psi_session.specs.Transcripts.{lists_for}
@@ -32,11 +32,11 @@ pub record WentOn (first now : SessionTranscript) (bytes : List ℕ) : Type 0 wh
 
 -- the bytes of the stream of a receiver of so many items
 abbrev pub receiver_stream_size : ReceiverDeal → ℕ → ℕ
-receiver_stream_size deal own = 39 + 512 * (7 + column_bytes (rows_for deal.stash own))
+receiver_stream_size deal own = 39 + columns_size (rows_for deal.stash own)
 
 -- the bytes of the stream of a sender of so many, over the other half of the deal
 abbrev pub sender_stream_size : ReceiverDeal → ℕ → ℕ
-sender_stream_size deal peer = 34 + (3 + deal.stash) * (10 * blocks_for peer + deal.tag_length * peer)
+sender_stream_size deal peer = 34 + lists_size (3 + deal.stash) deal.tag_length peer
 
 -- the session of two deals, of the receiver's items in their slots and the sender's items was run: the marks are those
 -- of the items that are hit in the sender's lists, and the transcript took all its bytes, behind the front of a record

@@ -12,6 +12,7 @@ use crate::transcript::SessionTranscript;
 use psi_base::{NoMemory, rows};
 use psi_cuckoo::Placement;
 use psi_deal::{ReceiverDeal, SenderDeal};
+use psi_frames::{DONE_SIZE, HELLO_SIZE, columns_size, lists_size};
 use psi_items::Items;
 use psi_log::Recorder;
 use psi_receiver::ReceiverCore;
@@ -21,9 +22,6 @@ use psi_texts::Status;
 use psi_walk::{Outcome, Placements};
 use std::alloc::Global;
 
-/// The most tags of a frame.
-const BLOCK_TAGS: u32 = 1024;
-
 /// A session that was run whole: the receiver's end, which tells what is shown, and the transcript.
 #[derive(Drop)]
 pub struct PlayedSession<'a> {
@@ -31,25 +29,21 @@ pub struct PlayedSession<'a> {
     pub transcript: SessionTranscript,
 }
 
-/// How many bytes the receiver of a deal sends, which has so many items: 39 beside its columns, each of which has 7
-/// before it.
+/// How many bytes the receiver of a deal sends, which has so many items: its hello, its columns and the end.
 pub fn receiver_length(deal: &ReceiverDeal, own: u32) -> u64
     requires deal { IsReceiverDeal deal.now }
     requires own { own ≤ limit_items }
     ensures { result ≡ receiver_stream_size deal.now own }
 {
-    39 + 512 * (7 + u64::from(rows(own, deal.stash()).div_ceil(8)))
+    u64::from(HELLO_SIZE + DONE_SIZE) + columns_size(rows(own, deal.stash()))
 }
 
-/// How many bytes the sender of the other half of a deal sends, which has so many items: 34 beside its frames of tags,
-/// each of which has 10 before them.
+/// How many bytes the sender of the other half of a deal sends, which has so many items: its hello and its lists.
 pub fn sender_length(deal: &ReceiverDeal, peer: u32) -> u64
     requires { IsReceiverDeal deal.now }
     ensures { result ≡ sender_stream_size deal.now peer }
 {
-    let blocks = 10 * u64::from(peer.div_ceil(BLOCK_TAGS));
-    let tags = u64::from(deal.width()) * u64::from(peer);
-    34 + u64::from(3 + deal.stash()) * (blocks + tags)
+    u64::from(HELLO_SIZE) + lists_size(3 + deal.stash(), deal.width(), peer)
 }
 
 /// How many bytes both ends exchange: the receiver, which has so many items, and a sender of so many.

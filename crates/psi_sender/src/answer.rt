@@ -12,12 +12,9 @@ ghost use Rattle.psi_sender.specs.Answering.{AreFor, flipped_word, word_tag, bin
 use crate::hashes::Hashes;
 use psi_bits::Word512;
 use psi_deal::SenderDeal;
-use psi_frames::{Frame, Outbox, put};
+use psi_frames::{BLOCK_TAGS, Frame, Outbox, put};
 use psi_oprf::{Tag, codes, tags};
 use std::cmp::Ordering;
-
-/// The most tags of a frame.
-pub(crate) const BLOCK_TAGS: usize = 1024;
 
 // How many tags are made at once.
 const BATCH: usize = 64;
@@ -228,8 +225,8 @@ pub(crate) fn put_block(
     requires spare { 10 + block_tags * width ≤ outbox.old.spare }
     ensures { outbox.new ≡ with_added (block_frame list (map (λ tag. take width tag) tags.now) block) outbox.old }
 {
-    let start = BLOCK_TAGS * block as usize;
-    let end = tags.len().min(start + BLOCK_TAGS);
+    let start = BLOCK_TAGS as usize * block as usize;
+    let end = tags.len().min(start + BLOCK_TAGS as usize);
     let bytes = &mut room[..(end - start) * usize::from(width)];
     join_tags(&tags[start..end], usize::from(width), bytes);
     put(outbox, &Frame::Tags { list, block, bytes });

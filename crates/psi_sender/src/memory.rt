@@ -4,12 +4,11 @@ ghost use Rattle.psi_spec.specs.Deals.{sender_columns};
 ghost use Rattle.psi_spec.specs.Limits.{limit_items, rows_for};
 ghost use Rattle.psi_sender.specs.Running.{IsMemory};
 
-use crate::answer::BLOCK_TAGS;
 use crate::hashes::Hashes;
 use psi_base::{NoMemory, bins, rows};
 use psi_bits::{Columns, Rows};
 use psi_deal::SenderDeal;
-use psi_frames::Outbox;
+use psi_frames::{BLOCK_TAGS, Outbox, TAGS_HEAD};
 use psi_items::Items;
 use psi_oprf::Tag;
 use std::alloc::Global;
@@ -47,13 +46,13 @@ impl Memory {
         ensures empty { IfOk result (λ memory. memory.outbox.pending ≡ []) }
     {
         let row_count = rows(count, deal.stash());
-        let room = BLOCK_TAGS * usize::from(deal.width());
+        let room = BLOCK_TAGS as usize * usize::from(deal.width());
         let mut columns = Columns::zero(alloc, row_count)?;
         let rows = Rows::with_rows(alloc, row_count)?;
         let hashes = Hashes::of(alloc, deal, items, bins(count))?;
         let tags = vec![in alloc; [0; 16]; items.len() as usize]?;
         let block = vec![in alloc; 0; room]?;
-        let outbox = Outbox::with_room(alloc, 10 + room as u32)?;
+        let outbox = Outbox::with_room(alloc, TAGS_HEAD + room as u32)?;
         deal.chosen(&mut columns);
         Ok(Memory {
             columns,

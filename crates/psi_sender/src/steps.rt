@@ -11,11 +11,12 @@ ghost use Rattle.psi_frames.specs.Boxes.{with_added};
 ghost use Rattle.psi_sender.specs.Phases.{next_phase, phase_after_column};
 ghost use Rattle.psi_sender.specs.Running.{IsAnswering, IsMemory, side_over};
 
-use crate::answer::{BLOCK_TAGS, make_list, put_block};
+use crate::answer::{make_list, put_block};
 use crate::memory::Memory;
 use crate::phase::{Phase, phase_after};
 use psi_base::bins;
 use psi_deal::SenderDeal;
+use psi_frames::BLOCK_TAGS;
 use psi_items::Items;
 use psi_lanes::flip;
 use psi_oprf::open_column;
@@ -123,6 +124,6 @@ pub(crate) fn put_tags(
         list,
         block,
         3 + deal.stash(),
-        items.len().div_ceil(BLOCK_TAGS as u32),
+        items.len().div_ceil(BLOCK_TAGS),
     )
 }
