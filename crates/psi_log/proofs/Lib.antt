@@ -2,3 +2,4 @@ pub mod Walking
 pub mod Faultless
 pub mod Slots
 pub mod Lawful
+pub mod Sizes

@@ -1,9 +1,11 @@
 -- The laws of records.
-use Rattle.std.specs.Prelude.{◌≡◌, ℕ, List, [], ◌++◌, fold, None}
+use Rattle.std.specs.Prelude.{◌≡◌, ◌+◌, ◌*◌, ℕ, List, [], ◌++◌, fold, length, None}
 use Rattle.std.specs.List.{flat_map}
 use Rattle.psi_spec.specs.DealFiles.{sealed}
 use Rattle.psi_spec.specs.Placement.{Slot}
 use Rattle.psi_spec.specs.Records.{IsLogged, IsWire, LoggedSession, logged_of, record_file, record_front}
+use Rattle.psi_spec.specs.Sessions.{weave}
+use Rattle.psi_spec.specs.Streams.{IsReceiverStream, IsSenderStream}
 use Rattle.psi_log.specs.BadRecords.{bad_record}
 
 -- bytes that are added piece by piece behind the front of some slots, and are sealed then, are the record of those
@@ -24,3 +26,12 @@ RecordsReadBack =
 -- the bytes of frames up to the first of kind 5 do not go on as others
 abbrev pub WiresEnd : Type 0
 WiresEnd = (wire more : List ℕ) → IsWire wire → IsWire (wire ++ more) → more ≡ []
+
+-- the record of a session has 9 bytes, 5 of each slot, both streams, and 32 of its hash
+abbrev pub RecordsHaveSizes : Type 0
+RecordsHaveSizes =
+    (stash : ℕ) (id : List ℕ) (session tag_length m n : ℕ) (columns : List (List ℕ)) (lists : List (List (List ℕ)))
+    (own peer : List ℕ) (slots : List Slot)
+    → length id ≡ 16 → IsReceiverStream stash id session m columns own
+    → IsSenderStream stash id session tag_length n lists peer
+    → length (record_file slots (weave own peer)) ≡ 9 + 5 * length slots + length own + length peer + 32

@@ -1,5 +1,5 @@
 //! Laws of records. Each function does nothing: its contract is the law.
-ghost use Rattle.psi_log.specs.Laws.{RecordsReadBack, WiresEnd, WrittenInPieces};
+ghost use Rattle.psi_log.specs.Laws.{RecordsHaveSizes, RecordsReadBack, WiresEnd, WrittenInPieces};
 
 /// Bytes that are added behind slots, in any pieces, are sealed as the record of those slots and bytes.
 pub fn writing()
@@ -14,4 +14,9 @@ pub fn reading()
 /// The frames of one record are no front of those of another.
 pub fn ending()
     ensures { WiresEnd }
+{}
+
+/// How many bytes the record of a session has.
+pub fn sizes()
+    ensures { RecordsHaveSizes }
 {}
