@@ -1,5 +1,5 @@
 -- A sender takes the stream of an honest receiver.
-use Rattle.std.proofs.Common.{◌≤◌, ℕ, List, length, subst}
+use Rattle.std.proofs.Common.{ℕ, List, length, subst}
 use Rattle.psi_spec.specs.Limits.{rows_for}
 use Rattle.psi_spec.specs.Sessions.{dealt_masked}
 use Rattle.psi_spec.specs.Streams.{IsReceiverStream, dealt_sets, receiver_stream}

@@ -11,18 +11,23 @@ use Rattle.std.proofs.lemmas.List.Folds.{concat-append}
 use Rattle.psi_spec.specs.Streams.{block_of}
 use Rattle.psi_spec.specs.Deals.{SenderDeal}
 use Rattle.psi_spec.specs.Formulas.{code}
-use Rattle.psi_sender.specs.Answering.{word_tag, bin_list}
+use Rattle.psi_spec.specs.Bits.{xor, both}
+use Rattle.psi_sender.specs.Answering.{flipped_word, word_tag, bin_list}
 use Rattle.psi_spec.proofs.StreamSteps.{block_of-map}
 use Rattle.psi_spec.proofs.Lists.{zip2-append}
 
-module _ {A B C : Type 0} where
-  -- one element more of an operator on two lists
-  pub zip2-take_more : (f : A → B → C) (xs : List A) (ys : List B) (i : ℕ) (d : A) (e : B) → i < length xs → i < length ys
-      → zip2 f (take (i + 1) xs) (take (i + 1) ys) ≡ zip2 f (take i xs) (take i ys) ++ f (slice_index_or xs i d) (slice_index_or ys i e) ∷ []
-  zip2-take_more f xs ys i d e l m =
-      let as_many : length (take i xs) ≡ length (take i ys) = length-take-le i xs (omega arith) ∙ sym (length-take-le i ys (omega arith)) in
-      ap₂ (zip2 f) (take_more xs i d l) (take_more ys i e m)
-      ∙ zip2-append f (take i xs) (slice_index_or xs i d ∷ []) (take i ys) (slice_index_or ys i e ∷ []) as_many
+-- words that are gathered by rows, and changed by what a choice word and codes share
+gathered : (choice : List ℕ) (opened : List (List ℕ)) (rows : List ℕ) (codes : List (List ℕ))
+    → zip2 (λ old word. xor old (both choice word)) (map (λ row. slice_index_or opened row []) rows) codes ≡ zip2 (flipped_word choice opened) rows codes
+gathered choice opened [] codes = refl
+gathered choice opened (row ∷ rows) [] = refl
+gathered choice opened (row ∷ rows) (code ∷ codes) = ap (λ zs. flipped_word choice opened row code ∷ zs) (gathered choice opened rows codes)
+
+pub changed_as_gathered : (choice : List ℕ) (opened : List (List ℕ)) (rows : List ℕ) (codes words made : List (List ℕ))
+    → words ≡ map (λ row. slice_index_or opened row []) rows → made ≡ zip2 (λ old word. xor old (both choice word)) words codes
+    → made ≡ zip2 (flipped_word choice opened) rows codes
+changed_as_gathered choice opened rows codes words made from_rows changed =
+    changed ∙ ap (λ ws. zip2 (λ old word. xor old (both choice word)) ws codes) from_rows ∙ gathered choice opened rows codes
 
 -- the elements up to the end of the next part
 pub take_part : {X : Type 0} (xs : List X) (at end next : ℕ) → at ≤ end → end ≡ min (length xs) next

@@ -1,5 +1,5 @@
 // The lists of tags that answer a receiver's columns.
-ghost use Rattle.std.specs.Prelude.{◌≡◌, ◌≤◌, ◌<◌, ◌+◌, ◌-◌, ◌*◌, ◌^◌, [], length, map, take, slice_index, All};
+ghost use Rattle.std.specs.Prelude.{◌≡◌, ◌≤◌, ◌<◌, ◌+◌, ◌-◌, ◌*◌, ◌^◌, [], length, map, take, slice_index, slice_index_or, All};
 ghost use Rattle.std.specs.List.{concat};
 ghost use Rattle.std.specs.Ordering.{nat_cmp};
 ghost use Rattle.std.specs.Cmp.Lexicographic.{slice_cmp};
@@ -13,13 +13,26 @@ use crate::hashes::Hashes;
 use psi_bits::Word512;
 use psi_deal::SenderDeal;
 use psi_frames::{BLOCK_TAGS, Frame, Outbox, put};
+use psi_lanes::mask_xor;
 use psi_oprf::{Tag, codes, tags};
 use std::cmp::Ordering;
 
 // How many tags are made at once.
 const BATCH: usize = 64;
 
+// Makes `words` the words of these opened rows.
+fn gather_rows(opened: &[Word512], rows: &[u32], words: &mut [Word512])
+    requires rows { length rows.now ≡ length words.old }
+    requires within { All (λ row. row < length opened.now) rows.now }
+    ensures { words.new ≡ map (λ row. slice_index_or opened.now row []) rows.now }
+{
+    for i in 0..words.len() {
+        words[i] = opened[rows[i] as usize];
+    }
+}
+
 // Makes `words` the words of opened rows, changed by what the choice word and as many codes share.
+#[tactic(auto, using(crate::proofs::Making::changed_as_gathered))]
 fn put_words(
     choice: &Word512,
     opened: &[Word512],
@@ -32,9 +45,8 @@ fn put_words(
     requires within { All (λ row. row < length opened.now) rows.now }
     ensures { words.new ≡ zip2 (flipped_word choice.now opened.now) rows.now codes.now }
 {
-    for i in 0..words.len() {
-        words[i] = opened[rows[i] as usize].xor(&choice.and(&codes[i]));
-    }
+    gather_rows(opened, rows, words);
+    mask_xor(words, choice, codes);
 }
 
 // Makes `out` the tags of as many items, at most `BATCH`, with these rows and codes.
