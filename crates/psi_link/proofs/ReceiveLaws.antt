@@ -22,7 +22,7 @@ use Rattle.psi_receiver.specs.Laws.{IsStreamFor, receiver_dialogue}
 use Rattle.psi_receiver.specs.Script.{answers_hello, count_in, receiver_script}
 use Rattle.psi_receiver.proofs.Hearing.{hears_nothing_else, hears_streams}
 use Rattle.psi_walk.specs.Due.{Contents, told}
-use Rattle.psi_walk.specs.Files.{items_in, reads_items, reads_receiver, receiver_in}
+use Rattle.psi_walk.specs.Files.{items_in, reads_file, reads_receiver, receiver_in}
 use Rattle.psi_walk.specs.JudgedFiles.{HasItems, HasReceiverDeal}
 use Rattle.psi_walk.specs.Promises.{IsAnswered, IsFailedEffect, IsHungry, IsNotTalked, IsOfEnd, IsReady, IsSilent, IsUnopened, IsUnread, Leaves, WriteFailed}
 use Rattle.psi_link.specs.Receive.{receive_rest, receive_tree, sender_link, session_record, shown_text, shows_and_keeps}
@@ -368,7 +368,7 @@ deal_is_ready : (words : List (List ℕ)) (files : Files) (before : Outside) (in
     → before.incoming ≡ Some incoming
     → IsReady (told (Some files) words) before
     (reads_receiver 3 (λ deal. places 2 (placing_of deal (items_of can.x_bytes)) (λ slots. receive_rest words (items_of can.x_bytes) deal slots)))
-unfolding reads_receiver
+unfolding reads_file
 deal_is_ready words files before incoming can coming = (
   receiver_bytes can.deal,
   is_there files words 3 (receiver_bytes can.deal) can.r_there,
@@ -380,7 +380,7 @@ deal_is_ready words files before incoming can coming = (
 
 receive_is_ready : (words : List (List ℕ)) (files : Files) (before : Outside) (incoming : List ℕ) (can : CanReceive words files incoming)
     → before.incoming ≡ Some incoming → IsReady (told (Some files) words) before (receive_tree words)
-unfolding reads_items
+unfolding reads_file
 receive_is_ready words files before incoming can coming = (
   can.x_bytes,
   is_there files words 2 can.x_bytes can.x_there,
