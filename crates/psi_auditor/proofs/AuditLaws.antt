@@ -15,7 +15,7 @@ use Rattle.psi_log.specs.BadRecords.{bad_record}
 use Rattle.psi_auditor.specs.Audit.{audit_record, audit_session, audit_text, audit_tree, findings_of}
 use Rattle.psi_auditor.specs.AuditPromises.{AuditAnswers, CanAudit, Evidence, HasEvidence, IsConsistent, IsDueFile, findings_in, limit_of, AuditPromise}
 use Rattle.psi_walk.specs.Due.{told}
-use Rattle.psi_walk.specs.Files.{items_in, reads_items, reads_receiver, reads_record, reads_sender, receiver_in, record_in, sender_in}
+use Rattle.psi_walk.specs.Files.{items_in, reads_file, reads_items, reads_receiver, reads_record, reads_sender, receiver_in, record_in, sender_in}
 use Rattle.psi_walk.specs.JudgedFiles.{HasItems, HasReceiverDeal, HasRecord, HasSenderDeal}
 use Rattle.psi_walk.specs.Promises.{IsAnswered, IsFailedEffect, IsOfEnd, IsReady, IsSilent, IsUnread, Leaves}
 use Rattle.psi_walk.specs.Tree.{Effect, says, decides, ends, End}
@@ -235,7 +235,7 @@ of_first known words before slots why after done (taken_on bytes xs read e a) =
 
 -- no set is placed
 deals_place_none : (xs ys : List (List ℕ)) → PlacesNone (reads_receiver 3 (λ receiver. reads_sender 4 (λ sender. audit_record receiver sender xs ys)))
-unfolding PlacesNone reads_receiver reads_record
+unfolding PlacesNone reads_file reads_record
 deals_place_none xs ys = λ r_bytes. decides_none (receiver_in 3 r_bytes) (λ receiver. reads_sender 4 (λ sender. audit_record receiver sender xs ys))
     (λ receiver. sender_places_none 4 (λ sender. audit_record receiver sender xs ys)
     (λ sender bytes. decides_none (record_in bytes) (λ log. audit_session receiver sender xs ys log)
@@ -270,7 +270,7 @@ record_is_ready words files before can =
 
 sender_is_ready : (words : List (List ℕ)) (files : Files) (before : Outside) (can : CanAudit words files)
     → IsReady (told (Some files) words) before (reads_sender 4 (λ sender. audit_record can.receiver sender (items_of can.x.bytes) (items_of can.y.bytes)))
-unfolding reads_sender
+unfolding reads_file
 sender_is_ready words files before can = (
   sender_bytes can.sender,
   is_there files words 4 (sender_bytes can.sender) can.s_there,
@@ -282,7 +282,7 @@ sender_is_ready words files before can = (
 
 receiver_is_ready : (words : List (List ℕ)) (files : Files) (before : Outside) (can : CanAudit words files)
     → IsReady (told (Some files) words) before (reads_receiver 3 (λ receiver. reads_sender 4 (λ sender. audit_record receiver sender (items_of can.x.bytes) (items_of can.y.bytes))))
-unfolding reads_receiver
+unfolding reads_file
 receiver_is_ready words files before can = (
   receiver_bytes can.receiver,
   is_there files words 3 (receiver_bytes can.receiver) can.r_there,
@@ -295,7 +295,7 @@ receiver_is_ready words files before can = (
 second_is_ready : (words : List (List ℕ)) (files : Files) (before : Outside) (can : CanAudit words files)
     → IsReady (told (Some files) words) before
     (reads_items 2 (λ ys. reads_receiver 3 (λ receiver. reads_sender 4 (λ sender. audit_record receiver sender (items_of can.x.bytes) ys))))
-unfolding reads_items
+unfolding reads_file
 second_is_ready words files before can = (
   can.y.bytes,
   is_there files words 2 can.y.bytes can.y.there,
@@ -306,7 +306,7 @@ second_is_ready words files before can = (
 )
 
 audit_is_ready : (words : List (List ℕ)) (files : Files) (before : Outside) (can : CanAudit words files) → IsReady (told (Some files) words) before audit_tree
-unfolding reads_items
+unfolding reads_file
 audit_is_ready words files before can = (
   can.x.bytes,
   is_there files words 1 can.x.bytes can.x.there,

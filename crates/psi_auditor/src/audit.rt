@@ -17,9 +17,7 @@ use psi_deal::{ReceiverDeal, SenderDeal};
 use psi_items::Items;
 use psi_log::LoggedSession;
 use psi_texts::Status;
-use psi_walk::{
-    Outcome, judge_record, outcome_of, read_bytes, read_items, read_receiver_deal, read_sender_deal,
-};
+use psi_walk::{Outcome, judge_record, outcome_of, read_as, read_bytes};
 use psi_words::{CommandForms, Form, bad_word};
 use std::alloc::Global;
 
@@ -103,10 +101,10 @@ fn audit_record<W: World>(
 fn audit_steps<W: World>(alloc: Global, words: &Words, world: &mut W) -> Result<Outcome, Status>
     ensures { Runs W.known words.now audit_tree (W.outside world.old) (end_of result (W.outside world.new)) }
 {
-    let x = read_items(alloc, words, 1, world)?;
-    let y = read_items(alloc, words, 2, world)?;
-    let receiver = read_receiver_deal(alloc, words, 3, world)?;
-    let sender = read_sender_deal(alloc, words, 4, world)?;
+    let x: Items = read_as(alloc, words, 1, world)?;
+    let y: Items = read_as(alloc, words, 2, world)?;
+    let receiver: ReceiverDeal = read_as(alloc, words, 3, world)?;
+    let sender: SenderDeal = read_as(alloc, words, 4, world)?;
     audit_record(alloc, words, &x, &y, &receiver, &sender, world)
 }
 

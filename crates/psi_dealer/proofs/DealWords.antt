@@ -1,16 +1,12 @@
 -- What the words of `deal` say.
-use Rattle.std.proofs.Common.{◌≡◌, ℕ, true, List, [], ◌∷◌, None}
-use Rattle.psi_words.specs.Words.{alone, are_sizes, bad_word, is_name, is_output, is_seed, is_session, word_at}
+use Rattle.std.proofs.Common.{◌≡◌, ℕ, List, [], ◌∷◌, None}
+use Rattle.psi_words.specs.Words.{alone, are_sizes, bad_word, is_name, is_output, is_seed, is_session}
 use Rattle.psi_words.proofs.InForm.{bad_from-none}
+use Rattle.psi_walk.specs.NamedDeals.{NameDeals}
 use Rattle.psi_dealer.specs.Commands.{deal_forms}
 
--- the words of `deal` have their forms
-pub record IsDealing (words : List (List ℕ)) : Type 0 where
-  pub seed : is_seed (word_at words 1) ≡ true
-  pub session : is_session (word_at words 2) ≡ true
-  pub sizes : are_sizes (word_at words 3) ≡ true
-
-pub deal_words : (words : List (List ℕ)) → bad_word deal_forms words ≡ None → IsDealing words
+-- words in form name a pair of deals
+pub deal_words : (words : List (List ℕ)) → bad_word deal_forms words ≡ None → NameDeals words 1
 deal_words words fit =
     let name = alone is_name in
     let sizes = alone are_sizes in

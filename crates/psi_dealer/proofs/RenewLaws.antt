@@ -9,7 +9,7 @@ use Rattle.psi_deal.specs.declared.old_files.OldDeal.{OldDeal}
 use Rattle.psi_deal.specs.declared.old_files.OldDeal.TheVariants.{Receiver, Sender}
 use Rattle.psi_deal.proofs.OldFaultless.{old_file_spells}
 use Rattle.psi_walk.specs.Due.{told}
-use Rattle.psi_walk.specs.Files.{old_deal_in, reads_old}
+use Rattle.psi_walk.specs.Files.{old_deal_in, reads_file}
 use Rattle.psi_walk.specs.JudgedFiles.{HasOldDeal}
 use Rattle.psi_walk.specs.Promises.{IsAnswered, IsFailedEffect, IsOfEnd, IsReady, IsSilent, IsUnread, Leaves, WriteFailed}
 use Rattle.psi_dealer.specs.Renew.{renew_tree}
@@ -97,7 +97,7 @@ old_ready word deal bytes file =
     rw (spells.0, spells.1) refl
 
 renew_is_ready : (words : List (List ℕ)) (files : Files) (before : Outside) (can : CanRenew words files) → IsReady (told (Some files) words) before renew_tree
-unfolding reads_old
+unfolding reads_file
 renew_is_ready words files before can = (
   can.bytes,
   is_there files words 1 can.bytes can.there,

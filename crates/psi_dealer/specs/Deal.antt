@@ -1,22 +1,19 @@
 -- What `deal` does: it writes the two deal files of a seed.
 use Rattle.std.specs.Prelude.{◌≡◌, ℕ, List, [], ◌∷◌, None}
 use Rattle.psi_spec.specs.DealFiles.{receiver_bytes, sender_bytes}
-use Rattle.psi_spec.specs.Deals.{ReceiverDeal, SenderDeal, ArePair, dealt_receiver, dealt_sender}
-use Rattle.psi_words.specs.Words.{number_of, seed_of, stash_of, tag_length_of, word_at}
+use Rattle.psi_spec.specs.Deals.{ReceiverDeal, SenderDeal, ArePair}
+use Rattle.psi_words.specs.Words.{word_at}
 use Rattle.psi_base.specs.Outside.{Outside, written}
+use Rattle.psi_walk.specs.NamedDeals.{receiver_of_words, sender_of_words}
 use Rattle.psi_walk.specs.Tree.{puts, Tree, ends, End}
 use Rattle.psi_texts.specs.declared.status.Status.TheVariants.{Done}
 
--- the pair of deals that the words of `deal` name by their seed, session and sizes
-unfoldable pub deal_receiver : List (List ℕ) → ReceiverDeal
-deal_receiver words =
-    dealt_receiver (seed_of (word_at words 1)) (number_of (word_at words 2))
-    (tag_length_of (word_at words 3)) (stash_of (word_at words 3))
+-- the pair of deals that the words of `deal` name from the first on
+abbrev pub deal_receiver : List (List ℕ) → ReceiverDeal
+deal_receiver words = receiver_of_words words 1
 
-unfoldable pub deal_sender : List (List ℕ) → SenderDeal
-deal_sender words =
-    dealt_sender (seed_of (word_at words 1)) (number_of (word_at words 2))
-    (tag_length_of (word_at words 3)) (stash_of (word_at words 3))
+abbrev pub deal_sender : List (List ℕ) → SenderDeal
+deal_sender words = sender_of_words words 1
 
 -- the receiver's file is written, and then the sender's
 abbrev pub deal_tree : List (List ℕ) → Tree

@@ -1,5 +1,5 @@
 -- What callers read of `renew`, in its own words.
-use Rattle.std.specs.Prelude.{◌≡◌, ◌<◌, ◌⊎◌, ℕ, List, [], Some, None}
+use Rattle.std.specs.Prelude.{◌≡◌, ◌<◌, ◌⊎◌, ℕ, List, [], Some}
 use Rattle.psi_spec.specs.Limits.{file_limit}
 use Rattle.psi_base.specs.Outside.{Known, Outside, Files, written}
 use Rattle.psi_deal.specs.OldDeals.{IsOldFile, renewed}

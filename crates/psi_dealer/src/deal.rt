@@ -1,17 +1,17 @@
 // The two deal files of a seed.
-ghost use Rattle.std.specs.Prelude.{◌≡◌, IfOk, None, Some};
+ghost use Rattle.std.specs.Prelude.{◌≡◌, None};
 ghost use Rattle.psi_words.specs.Words.{bad_word};
 ghost use Rattle.psi_walk.specs.Command.{Answers, KeepsInForm};
 ghost use Rattle.psi_walk.specs.Tree.{end_of, ended};
 ghost use Rattle.psi_walk.specs.Walk.{Runs};
 ghost use Rattle.psi_dealer.specs.Commands.{command_deal, deal_forms};
-ghost use Rattle.psi_dealer.specs.Deal.{deal_receiver, deal_sender, deal_tree};
+ghost use Rattle.psi_dealer.specs.Deal.{deal_tree};
 
-use psi_base::{NoMemory, Words, World};
-use psi_deal::{ReceiverDeal, SenderDeal, deal, write_receiver, write_sender};
+use psi_base::{Words, World};
+use psi_deal::{write_receiver, write_sender};
 use psi_texts::Status;
-use psi_walk::{Outcome, outcome_of, write_word};
-use psi_words::{CommandForms, Form, bad_word, seed_of, session_of, sizes_of, word_at};
+use psi_walk::{Outcome, deals_of_words, outcome_of, write_word};
+use psi_words::{CommandForms, Form, bad_word};
 use std::alloc::Global;
 
 const DEAL: CommandForms = CommandForms {
@@ -25,27 +25,14 @@ const DEAL: CommandForms = CommandForms {
     optional: &[],
 };
 
-// The pair of deals that the words name. Words in form name no sizes that deals can't have.
-#[tactic(auto, unfolding(crate::specs::Deal::deal_receiver, crate::specs::Deal::deal_sender))]
-fn named_deals(alloc: Global, words: &Words) -> Result<(ReceiverDeal, SenderDeal), NoMemory>
-    requires fit { bad_word deal_forms words.now ≡ None }
-    ensures receiver { IfOk result (λ deals. deals.0 ≡ deal_receiver words.now) }
-    ensures sender { IfOk result (λ deals. deals.1 ≡ deal_sender words.now) }
-{
-    let seed = seed_of(word_at(words, 1));
-    let session = session_of(word_at(words, 2));
-    let (tag_length, stash) = sizes_of(word_at(words, 3));
-    deal(alloc, &seed, session, tag_length, stash).map_err(|_| NoMemory)
-}
-
 // What `deal` does. A refusal before there is an outcome is answered as an error.
-#[tactic(auto, using(psi_walk::proofs::Walks::walk))]
+#[tactic(auto, using(psi_walk::proofs::Walks::walk, crate::proofs::DealWords::deal_words))]
 fn deal_steps<W: World>(alloc: Global, words: &Words, world: &mut W) -> Result<Outcome, Status>
     requires fit { bad_word deal_forms words.now ≡ None }
     ensures { Runs W.known words.now (deal_tree words.now) (W.outside world.old)
         (end_of result (W.outside world.new)) }
 {
-    let (receiver, sender) = named_deals(alloc, words)?;
+    let (receiver, sender) = deals_of_words(alloc, words, 1)?;
     let receiver = write_receiver(alloc, &receiver)?;
     let sender = write_sender(alloc, &sender)?;
     write_word(words, 4, &receiver, world)?;

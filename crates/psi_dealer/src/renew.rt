@@ -6,8 +6,9 @@ ghost use Rattle.psi_dealer.specs.Commands.{command_renew};
 ghost use Rattle.psi_dealer.specs.Renew.{renew_tree};
 
 use psi_base::{Words, World};
+use psi_deal::OldDeal;
 use psi_texts::Status;
-use psi_walk::{Outcome, outcome_of, read_old_deal, write_word};
+use psi_walk::{Outcome, outcome_of, read_as, write_word};
 use psi_words::{CommandForms, Form, bad_word};
 use std::alloc::Global;
 
@@ -21,7 +22,7 @@ const RENEW: CommandForms = CommandForms {
 fn renew_steps<W: World>(alloc: Global, words: &Words, world: &mut W) -> Result<Outcome, Status>
     ensures { Runs W.known words.now renew_tree (W.outside world.old) (end_of result (W.outside world.new)) }
 {
-    let deal = read_old_deal(alloc, words, 1, world)?;
+    let deal: OldDeal = read_as(alloc, words, 1, world)?;
     let file = deal.renew(alloc)?;
     write_word(words, 2, &file, world)?;
     Ok(Outcome::of(Status::Done))

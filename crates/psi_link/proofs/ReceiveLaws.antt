@@ -22,12 +22,12 @@ use Rattle.psi_receiver.specs.Laws.{IsStreamFor, receiver_dialogue}
 use Rattle.psi_receiver.specs.Script.{answers_hello, count_in, receiver_script}
 use Rattle.psi_receiver.proofs.Hearing.{hears_nothing_else, hears_streams}
 use Rattle.psi_walk.specs.Due.{Contents, told}
-use Rattle.psi_walk.specs.Files.{items_in, reads_items, reads_receiver, receiver_in}
+use Rattle.psi_walk.specs.Files.{items_in, reads_file, reads_receiver, receiver_in}
 use Rattle.psi_walk.specs.JudgedFiles.{HasItems, HasReceiverDeal}
 use Rattle.psi_walk.specs.Promises.{IsAnswered, IsFailedEffect, IsHungry, IsNotTalked, IsOfEnd, IsReady, IsSilent, IsUnopened, IsUnread, Leaves, WriteFailed}
 use Rattle.psi_link.specs.Receive.{receive_rest, receive_tree, sender_link, session_record, shown_text, shows_and_keeps}
 use Rattle.psi_walk.specs.Placing.{placing_of, slots_with}
-use Rattle.psi_link.specs.ReceivePromises.{AfterSession, CanReceive, connected, IsAtHelloOrCounted, ReceiveAnswers, ReceiveServes, exchanged, hit_lines, kept_record}
+use Rattle.psi_link.specs.ReceivePromises.{AfterSession, CanReceive, connected, IsAtHelloOrCounted, ReceiveAnswers, ReceiveServes, exchanged, hit_lines}
 use Rattle.psi_walk.specs.Tree.{carrying, Effect, says, puts, places, talks, holds, ends, End, stopped}
 use Rattle.psi_walk.specs.Walk.{IsNotPlaced, IsPicked, Runs}
 use Rattle.psi_texts.specs.declared.status.Status.{Status}
@@ -45,16 +45,12 @@ use Rattle.psi_walk.proofs.Through.{runs_through}
 
 -- ---- the session
 
--- the text and the record of a stream
+-- the text of a stream
 text_of : (xs : List (List ℕ)) (deal : ReceiverDeal) (slots : List Slot) (count : ℕ) (lists : List (List (List ℕ))) (taken : List ℕ) → IsReceiverDeal deal
     → IsStreamFor deal count lists taken → shown_text xs deal slots taken ≡ hit_lines xs deal slots lists
 unfolding shown_text
 text_of xs deal slots count lists taken is stream =
     ap (λ (all : List (List (List ℕ))). lines_text (hit_items (receiver_side deal xs slots) all)) (lists_of_stream deal count lists taken is stream)
-
-record_of : (xs : List (List ℕ)) (deal : ReceiverDeal) (slots : List Slot) (taken : List ℕ) → session_record xs deal slots taken ≡ kept_record xs deal slots taken
-unfolding session_record
-record_of xs deal slots taken = refl
 
 -- a session that read well took a sender's stream: what is said and kept for it, and what was sent
 pub record HeardWell (known : Known) (words : List (List ℕ)) (before : Outside) (xs : List (List ℕ)) (deal : ReceiverDeal) (slots : List Slot) (taken : List ℕ) : Type 0 where
@@ -79,11 +75,9 @@ heard_well known words before xs deal slots taken is were read =
     }
 
 -- what is printed and written at the end
-same_put : (words : List (List ℕ)) (mid mid' : Outside) (text text' file file' : List ℕ) → mid ≡ mid' → text ≡ text' → file ≡ file'
-    → written (printed_too mid text) (word_at words 4) file ≡ written (printed_too mid' text') (word_at words 4) file'
-same_put words mid mid' text text' file file' m t f =
-    ap (λ (o : Outside). written (printed_too o text) (word_at words 4) file) m
-    ∙ ap₂ (λ (xs ys : List ℕ). written (printed_too mid' xs) (word_at words 4) ys) t f
+same_put : (words : List (List ℕ)) (mid mid' : Outside) (text text' file : List ℕ) → mid ≡ mid' → text ≡ text'
+    → written (printed_too mid text) (word_at words 4) file ≡ written (printed_too mid' text') (word_at words 4) file
+same_put words mid mid' text text' file m t = ap₂ (λ (o : Outside) (xs : List ℕ). written (printed_too o xs) (word_at words 4) file) m t
 
 -- a run that went through its session and did the rest
 session_leaves : (known : Known) (words : List (List ℕ)) (before : Outside) (xs : List (List ℕ)) (deal : ReceiverDeal) (slots : List Slot) (end later : End) (taken : List ℕ)
@@ -109,8 +103,7 @@ session_leaves known words before xs deal slots end later taken x_file r_file is
     were_taken = were;
     fact = ap (λ (d : End). d.left) carried ∙ (ap (λ (d : End). d.left) all
         ∙ same_put words (talked (connected words before) ((receiver_dialogue deal (placed_of xs slots)).owes taken) taken) (exchanged words before xs deal slots taken)
-        (shown_text xs deal slots taken) (hit_lines xs deal slots heard.lists) (session_record xs deal slots taken) (kept_record xs deal slots taken)
-        heard.mid heard.text (record_of xs deal slots taken));
+        (shown_text xs deal slots taken) (hit_lines xs deal slots heard.lists) (session_record xs deal slots taken) heard.mid heard.text);
   };
 }
 
@@ -375,7 +368,7 @@ deal_is_ready : (words : List (List ℕ)) (files : Files) (before : Outside) (in
     → before.incoming ≡ Some incoming
     → IsReady (told (Some files) words) before
     (reads_receiver 3 (λ deal. places 2 (placing_of deal (items_of can.x_bytes)) (λ slots. receive_rest words (items_of can.x_bytes) deal slots)))
-unfolding reads_receiver
+unfolding reads_file
 deal_is_ready words files before incoming can coming = (
   receiver_bytes can.deal,
   is_there files words 3 (receiver_bytes can.deal) can.r_there,
@@ -387,7 +380,7 @@ deal_is_ready words files before incoming can coming = (
 
 receive_is_ready : (words : List (List ℕ)) (files : Files) (before : Outside) (incoming : List ℕ) (can : CanReceive words files incoming)
     → before.incoming ≡ Some incoming → IsReady (told (Some files) words) before (receive_tree words)
-unfolding reads_items
+unfolding reads_file
 receive_is_ready words files before incoming can coming = (
   can.x_bytes,
   is_there files words 2 can.x_bytes can.x_there,

@@ -17,7 +17,7 @@ use Rattle.psi_frames.specs.Script.{sends}
 use Rattle.psi_sender.specs.Script.{count_in, opens_columns}
 use Rattle.psi_sender.specs.Laws.{IsStreamFor, sender_dialogue}
 use Rattle.psi_sender.proofs.Serving.{serves_nothing_else, serves_streams}
-use Rattle.psi_walk.specs.Files.{items_in, sender_in, reads_items, reads_sender}
+use Rattle.psi_walk.specs.Files.{items_in, reads_file, reads_sender, sender_in}
 use Rattle.psi_walk.specs.JudgedFiles.{HasItems, HasSenderDeal}
 use Rattle.psi_walk.specs.Promises.{IsAnswered, IsNotTalked, IsOfEnd, IsReady, IsSilent, IsUnopened, IsUnread, Leaves}
 use Rattle.psi_link.specs.Send.{receiver_link, send_rest, send_tree}
@@ -200,7 +200,7 @@ session_ready words contents before incoming ys deal stream rest count columns t
 
 sender_is_ready : (words : List (List ℕ)) (files : Files) (before : Outside) (incoming : List ℕ) (ys : List (List ℕ)) (can : CanServe words files incoming)
     → before.incoming ≡ Some incoming → IsReady (told (Some files) words) before (reads_sender 3 (λ deal. send_rest words ys deal))
-unfolding reads_sender
+unfolding reads_file
 sender_is_ready words files before incoming ys can coming = (
   sender_bytes can.deal,
   is_there files words 3 (sender_bytes can.deal) can.s_there,
@@ -211,7 +211,7 @@ sender_is_ready words files before incoming ys can coming = (
 
 send_is_ready : (words : List (List ℕ)) (files : Files) (before : Outside) (incoming : List ℕ) (can : CanServe words files incoming)
     → before.incoming ≡ Some incoming → IsReady (told (Some files) words) before (send_tree words)
-unfolding reads_items
+unfolding reads_file
 send_is_ready words files before incoming can coming = (
   can.y_bytes,
   is_there files words 2 can.y_bytes can.y_there,

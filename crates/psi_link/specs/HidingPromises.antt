@@ -1,5 +1,5 @@
 -- What the other end may tell of a receiver's list from what it sends, and all that `receive` promises.
-use Rattle.std.specs.Prelude.{◌≡◌, ◌⊎◌, ◌++◌, ℕ, List, option_map, take, Some, None}
+use Rattle.std.specs.Prelude.{◌≡◌, ◌⊎◌, ◌++◌, ℕ, List, option_map, take, Some}
 use Rattle.psi_spec.specs.Deals.{ReceiverDeal}
 use Rattle.psi_spec.specs.Meeting.{placed_of}
 use Rattle.psi_spec.specs.Placement.{Slot}

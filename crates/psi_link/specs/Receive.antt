@@ -45,7 +45,7 @@ lists_of deal taken =
 unfoldable pub shown_text : List (List ℕ) → ReceiverDeal → List Slot → List ℕ → List ℕ
 shown_text xs deal slots taken = lines_text (hit_items (receiver_side deal xs slots) (lists_of deal taken))
 
--- the record of a session in which these bytes of the sender were taken
+-- the record of a session in which these bytes of the sender were taken: the slots and both streams
 unfoldable pub session_record : List (List ℕ) → ReceiverDeal → List Slot → List ℕ → List ℕ
 session_record xs deal slots taken = record_file slots (weave (own_stream deal (placed_of xs slots)) taken)
 

@@ -7,9 +7,8 @@ use Rattle.psi_spec.specs.Items.{first_bad, items_of}
 use Rattle.psi_spec.specs.Limits.{bins_for, file_limit, limit_items}
 use Rattle.psi_spec.specs.Meeting.{Placed, placed_of, SharesTag, shown, shown_placed}
 use Rattle.psi_spec.specs.Placement.{Slot, IsPlacementOf}
-use Rattle.psi_spec.specs.Records.{record_file}
 use Rattle.psi_spec.specs.SessionLaws.{pair_setup}
-use Rattle.psi_spec.specs.Sessions.{dealt_masked, weave}
+use Rattle.psi_spec.specs.Sessions.{dealt_masked}
 use Rattle.psi_spec.specs.Streams.{sender_stream}
 use Rattle.psi_spec.specs.Texts.{lines_text}
 use Rattle.psi_words.specs.Words.{word_at}
@@ -19,7 +18,7 @@ use Rattle.psi_frames.specs.declared.turns.EndFault.TheVariants as peer
 use Rattle.psi_receiver.specs.Laws.{IsStreamFor, own_stream, receiver_dialogue}
 use Rattle.psi_walk.specs.JudgedFiles.{HasBadLine, HasBadReceiverDeal, HasItems, HasReceiverDeal}
 use Rattle.psi_walk.specs.Promises.{IsCalm, IsDone, IsSilent, ReadFailed, WriteFailed}
-use Rattle.psi_link.specs.Receive.{sender_link}
+use Rattle.psi_link.specs.Receive.{sender_link, session_record}
 use Rattle.psi_walk.specs.Placing.{slots_with, IsCrowdedSet}
 use Rattle.psi_walk.specs.Tree.{End}
 use Rattle.psi_texts.specs.declared.status.Status.{Status}
@@ -73,10 +72,6 @@ exchanged words before xs deal slots taken =
 abbrev pub hit_lines : List (List ℕ) → ReceiverDeal → List Slot → List (List (List ℕ)) → List ℕ
 hit_lines xs deal slots lists = lines_text (hit_items (receiver_side deal xs slots) lists)
 
--- the record of the slots and of both streams
-abbrev pub kept_record : List (List ℕ) → ReceiverDeal → List Slot → List ℕ → List ℕ
-kept_record xs deal slots taken = record_file slots (weave (own_stream deal (placed_of xs slots)) taken)
-
 -- the whole session was run: the outside is then as in a fact, by the outside once it was, the lines and the record
 abbrev pub AfterSession
     : Known → List (List ℕ) → Outside → List (List Slot) → (Outside → List ℕ → List ℕ → Type 0) → Type 0
@@ -84,7 +79,7 @@ AfterSession known words before placed P =
     WithPlacement known words before placed
     (λ xs deal slots. WithStream known before deal
     (λ lists taken. P (exchanged words before xs deal slots taken) (hit_lines xs deal slots lists)
-    (kept_record xs deal slots taken)))
+    (session_record xs deal slots taken)))
 
 -- no more was sent than the 34 bytes of a hello, or a refusal of the outside was counted
 abbrev pub IsAtHelloOrCounted : Outside → Outside → Type 0
@@ -203,6 +198,6 @@ pub record FoundCommon (known : Known) (words : List (List ℕ)) (before : Outsi
   pub lines : List ℕ
   pub left : after
       ≡ written (printed_too (exchanged words before xs deal slots taken) lines) (word_at words 4)
-      (kept_record xs deal slots taken)
+      (session_record xs deal slots taken)
   pub honest : (sender : SenderDeal) (ys : List (List ℕ)) → IsHonest deal xs slots sender ys taken
       → ShowsCommonItems deal xs slots sender ys lines

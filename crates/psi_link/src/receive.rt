@@ -27,8 +27,8 @@ use psi_log::{Recorder, write_record};
 use psi_receiver::{LoggedReceiver, ReceiverCore, run_receiver};
 use psi_texts::Status;
 use psi_walk::{
-    Outcome, Placements, open_link, outcome_of, place_items, print_shown, read_items,
-    read_receiver_deal, session_status, status, write_word,
+    Outcome, Placements, open_link, outcome_of, place_items, print_shown, read_as, session_status,
+    status, write_word,
 };
 use psi_words::{CommandForms, Form, bad_word};
 use std::alloc::Global;
@@ -155,8 +155,8 @@ fn receive_steps<W: World>(alloc: Global, words: &Words, world: &mut W) -> Resul
     ensures { Runs W.known words.now (receive_tree words.now) (W.outside world.old)
         (end_of result (W.outside world.new)) }
 {
-    let items = read_items(alloc, words, 2, world)?;
-    let deal = read_receiver_deal(alloc, words, 3, world)?;
+    let items: Items = read_as(alloc, words, 2, world)?;
+    let deal: ReceiverDeal = read_as(alloc, words, 3, world)?;
     place_and_receive(alloc, words, &items, &deal, world)
 }
 

@@ -13,7 +13,7 @@ use psi_deal::SenderDeal;
 use psi_items::Items;
 use psi_sender::{SenderCore, run_sender};
 use psi_texts::Status;
-use psi_walk::{Outcome, open_link, outcome_of, read_items, read_sender_deal, session_status};
+use psi_walk::{Outcome, open_link, outcome_of, read_as, session_status};
 use psi_words::{CommandForms, Form, bad_word};
 use std::alloc::Global;
 
@@ -47,8 +47,8 @@ fn serve<W: World>(
 fn send_steps<W: World>(alloc: Global, words: &Words, world: &mut W) -> Result<Outcome, Status>
     ensures { Runs W.known words.now (send_tree words.now) (W.outside world.old) (end_of result (W.outside world.new)) }
 {
-    let items = read_items(alloc, words, 2, world)?;
-    let deal = read_sender_deal(alloc, words, 3, world)?;
+    let items: Items = read_as(alloc, words, 2, world)?;
+    let deal: SenderDeal = read_as(alloc, words, 3, world)?;
     open_link(words, 1, Side::Listen, world)?;
     serve(alloc, &items, &deal, world)?;
     Ok(Outcome::of(Status::Done))

@@ -2,7 +2,6 @@
 use Rattle.std.proofs.Common.{◌≡◌, inl, inr, ℕ, Bool, true, false, nat_lt, if◌then◌else◌, List, [], ◌∷◌, length, map, Some, refl, sym, ap, ◌∙◌, subst, arith, slice_get, zero, suc}
 use Rattle.std.specs.List.{Contains}
 use Rattle.std.proofs.lemmas.Bool.Decides.{nat_tests}
-use Rattle.psi_spec.specs.Deals.{ArePair}
 use Rattle.psi_spec.specs.Items.{items_of}
 use Rattle.psi_spec.specs.Limits.{bins_for, file_limit}
 use Rattle.psi_spec.specs.Meeting.{placed_of, shown}
@@ -10,14 +9,14 @@ use Rattle.psi_spec.specs.Placement.{Slot, IsPlacementOf}
 use Rattle.psi_spec.specs.Records.{record_file}
 use Rattle.psi_spec.specs.SessionLaws.{FindsShown}
 use Rattle.psi_spec.specs.Texts.{lines_text}
-use Rattle.psi_words.specs.Words.{number_of, seed_of, stash_of, tag_length_of, word_at}
-use Rattle.psi_spec.proofs.Dealing.{dealt_are_pairs, dealt_receiver_sizes, dealt_sender_sizes, length-placement}
+use Rattle.psi_words.specs.Words.{word_at}
+use Rattle.psi_spec.proofs.Dealing.{length-placement}
 use Rattle.psi_spec.proofs.Finding.{pairs_find_shown}
 use Rattle.psi_spec.proofs.Placing.{items_of-placed_of}
 use Rattle.psi_base.specs.Outside.{Known, Outside, Files, printed_too, written}
 use Rattle.sha2.specs.Sha256.{sha256}
 use Rattle.psi_walk.specs.Due.{after_effects, told}
-use Rattle.psi_walk.specs.Files.{items_in, reads_items}
+use Rattle.psi_walk.specs.Files.{items_in, reads_file, reads_items}
 use Rattle.psi_walk.specs.JudgedFiles.{HasItems}
 use Rattle.psi_local.specs.Local.{keeps, local_receiver, local_rest, local_sender, local_session, local_set, local_setup, local_text, local_tree}
 use Rattle.psi_local.specs.LocalPromises.{CanPlay, HasRecordWord, LocalAnswers, PrintedShown, WasPlaced, recorded, LocalPromise}
@@ -36,22 +35,11 @@ use Rattle.psi_walk.proofs.Placings.{is_placement, hides_list}
 use Rattle.psi_walk.proofs.Left.{follows_leaves}
 use Rattle.psi_walk.proofs.Through.{runs_through}
 use Rattle.psi_walk.proofs.Wired.{runs_wired}
+use Rattle.psi_walk.proofs.WordDeals.{named_choice, named_pair, named_seeds}
 use Rattle.psi_walk.specs.Command.{Keeps}
 use Rattle.psi_local.specs.Commands.{command_local}
 
 -- ---- the named deals
-
-pub local_pair : (words : List (List ℕ)) → ArePair (local_receiver words) (local_sender words)
-unfolding local_receiver local_sender
-local_pair words = dealt_are_pairs (seed_of (word_at words 3)) (number_of (word_at words 4)) (tag_length_of (word_at words 5)) (stash_of (word_at words 5))
-
-local_seeds : (words : List (List ℕ)) → length (local_receiver words).seeds ≡ 512
-unfolding local_receiver
-local_seeds words = (dealt_receiver_sizes (seed_of (word_at words 3)) (number_of (word_at words 4)) (tag_length_of (word_at words 5)) (stash_of (word_at words 5))).count
-
-local_choice : (words : List (List ℕ)) → length (local_sender words).choice ≡ 64
-unfolding local_sender
-local_choice words = (dealt_sender_sizes (seed_of (word_at words 3)) (number_of (word_at words 4)) (tag_length_of (word_at words 5)) (stash_of (word_at words 5))).choice
 
 -- these slots are a placement of items with the named deal
 IsPlacedFor : List (List ℕ) → List (List ℕ) → List Slot → Type 0
@@ -61,7 +49,7 @@ pub local_finds : (words : List (List ℕ)) (xs ys : List (List ℕ)) (slots : L
     → IsPlacementOf (local_receiver words).stash (local_receiver words).key (bins_for (length xs)) xs slots
     → FindsShown (local_receiver words) (local_sender words) xs ys slots
 local_finds words xs ys slots placement =
-    pairs_find_shown (local_receiver words) (local_sender words) xs ys slots (local_pair words) (local_seeds words) (local_choice words) placement
+    pairs_find_shown (local_receiver words) (local_sender words) xs ys slots (named_pair words 3) (named_seeds words 3) (named_choice words 3) placement
 
 -- ---- what a run that is done left
 
@@ -94,7 +82,7 @@ set_leaves known words before xs ys end x_file y_file h =
       slots = slots;
       x_file = x_file;
       y_file = y_file;
-      pair = local_pair words;
+      pair = named_pair words 3;
       placement = placement;
       picked = h.2.1;
       carried = ap (λ (d : End). d.placed) h.3 ∙ ap (λ (d : End). slots ∷ d.placed) h.4;
@@ -227,7 +215,7 @@ set_is_ready words files before can ys = ((can.slots, can.placement), λ slots i
 
 second_is_ready : (words : List (List ℕ)) (files : Files) (before : Outside) (can : CanPlay words files)
     → IsReady (told (Some files) words) before (reads_items 2 (λ ys. local_set words (items_of can.x.bytes) ys))
-unfolding reads_items
+unfolding reads_file
 second_is_ready words files before can = (
   can.y.bytes,
   is_there files words 2 can.y.bytes can.y.there,
@@ -237,7 +225,7 @@ second_is_ready words files before can = (
 )
 
 local_is_ready : (words : List (List ℕ)) (files : Files) (before : Outside) (can : CanPlay words files) → IsReady (told (Some files) words) before (local_tree words)
-unfolding reads_items
+unfolding reads_file
 local_is_ready words files before can = (
   can.x.bytes,
   is_there files words 1 can.x.bytes can.x.there,

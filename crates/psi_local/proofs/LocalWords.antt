@@ -1,16 +1,12 @@
 -- What the words of `local` say.
-use Rattle.std.proofs.Common.{◌≡◌, ℕ, true, List, [], ◌∷◌, None}
-use Rattle.psi_words.specs.Words.{alone, are_sizes, bad_word, is_name, is_output, is_seed, is_session, word_at}
+use Rattle.std.proofs.Common.{◌≡◌, ℕ, List, [], ◌∷◌, None}
+use Rattle.psi_words.specs.Words.{alone, are_sizes, bad_word, is_name, is_output, is_seed, is_session}
 use Rattle.psi_words.proofs.InForm.{bad_from-none}
+use Rattle.psi_walk.specs.NamedDeals.{NameDeals}
 use Rattle.psi_local.specs.Commands.{local_forms}
 
--- the words of `local` have their forms
-pub record IsLocal (words : List (List ℕ)) : Type 0 where
-  pub seed : is_seed (word_at words 3) ≡ true
-  pub session : is_session (word_at words 4) ≡ true
-  pub sizes : are_sizes (word_at words 5) ≡ true
-
-pub local_words : (words : List (List ℕ)) → bad_word local_forms words ≡ None → IsLocal words
+-- words in form name a pair of deals
+pub local_words : (words : List (List ℕ)) → bad_word local_forms words ≡ None → NameDeals words 3
 local_words words fit =
     let name = alone is_name in
     let seed = alone is_seed in

@@ -2,28 +2,24 @@
 -- receiver's items that are shown, and writes the record of the session where a word names a file for it.
 use Rattle.std.specs.Prelude.{ℕ, List, [], ◌∷◌, length, Some, nat_lt, if◌then◌else◌}
 use Rattle.sha2.specs.Sha256.{sha256}
-use Rattle.psi_spec.specs.Deals.{ReceiverDeal, SenderDeal, dealt_receiver, dealt_sender}
+use Rattle.psi_spec.specs.Deals.{ReceiverDeal, SenderDeal}
 use Rattle.psi_spec.specs.Meeting.{Setup, placed_of, shown}
 use Rattle.psi_spec.specs.Placement.{Slot}
 use Rattle.psi_spec.specs.Records.{record_file}
 use Rattle.psi_spec.specs.SessionLaws.{pair_setup}
 use Rattle.psi_spec.specs.Sessions.{session_bytes}
 use Rattle.psi_spec.specs.Texts.{lines_text}
-use Rattle.psi_words.specs.Words.{number_of, seed_of, stash_of, tag_length_of, word_at}
 use Rattle.psi_walk.specs.Files.{reads_items}
+use Rattle.psi_walk.specs.NamedDeals.{receiver_of_words, sender_of_words}
 use Rattle.psi_walk.specs.Placing.{placing_of}
 use Rattle.psi_walk.specs.Tree.{Effect, says, puts, Tree, places, ends}
 
--- the pair of deals that the words of `local` name by their seed, session and sizes
-unfoldable pub local_receiver : List (List ℕ) → ReceiverDeal
-local_receiver words =
-    dealt_receiver (seed_of (word_at words 3)) (number_of (word_at words 4))
-    (tag_length_of (word_at words 5)) (stash_of (word_at words 5))
+-- the pair of deals that the words of `local` name from the third on
+abbrev pub local_receiver : List (List ℕ) → ReceiverDeal
+local_receiver words = receiver_of_words words 3
 
-unfoldable pub local_sender : List (List ℕ) → SenderDeal
-local_sender words =
-    dealt_sender (seed_of (word_at words 3)) (number_of (word_at words 4))
-    (tag_length_of (word_at words 5)) (stash_of (word_at words 5))
+abbrev pub local_sender : List (List ℕ) → SenderDeal
+local_sender words = sender_of_words words 3
 
 -- the setup of that pair and of the receiver's items in their slots
 abbrev pub local_setup : List (List ℕ) → List (List ℕ) → List Slot → Setup

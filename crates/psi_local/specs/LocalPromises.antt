@@ -1,5 +1,5 @@
 -- What callers read of `local`, in its own words.
-use Rattle.std.specs.Prelude.{◌≡◌, ◌<◌, ◌⊎◌, ℕ, List, [], ◌∷◌, Contains, length, nat_lt, Some, None, if◌then◌else◌}
+use Rattle.std.specs.Prelude.{◌≡◌, ◌<◌, ◌⊎◌, ℕ, List, [], ◌∷◌, Contains, length, nat_lt, Some, if◌then◌else◌}
 use Rattle.sha2.specs.Sha256.{sha256}
 use Rattle.psi_spec.specs.Deals.{ArePair}
 use Rattle.psi_spec.specs.Items.{items_of}

@@ -1,8 +1,7 @@
 // Both ends of a session in one run.
-ghost use Rattle.std.specs.Prelude.{◌≡◌, ◌∷◌, Bool, List, ℕ, IfOk, Some, None, length};
+ghost use Rattle.std.specs.Prelude.{◌≡◌, ◌∷◌, Bool, List, ℕ, Some, None, length};
 ghost use Rattle.sha2.specs.Hashers.{Holds256};
 ghost use Rattle.sha2.specs.Sha256.{sha256};
-ghost use Rattle.psi_spec.specs.Deals.{ArePair, IsReceiverDeal, IsSenderDeal};
 ghost use Rattle.psi_spec.specs.Hits.{marked};
 ghost use Rattle.psi_spec.specs.Texts.{lines_text};
 ghost use Rattle.psi_words.specs.Words.{bad_word};
@@ -10,18 +9,19 @@ ghost use Rattle.psi_walk.specs.Command.{Answers, KeepsInForm};
 ghost use Rattle.psi_walk.specs.Tree.{closed, end_of, ended, ends, says};
 ghost use Rattle.psi_walk.specs.Walk.{MakesAll, Runs};
 ghost use Rattle.psi_local.specs.Commands.{command_local, local_forms};
-ghost use Rattle.psi_local.specs.Local.{local_receiver, local_sender, local_set, local_tree};
+ghost use Rattle.psi_local.specs.Local.{local_set, local_tree};
 ghost use Rattle.psi_local.specs.Transcript.{writes};
 
 use crate::playing::{PlayedSession, placed_outcome, play, session_length};
 use crate::transcript::begin_record;
-use psi_base::{NoMemory, Words, World};
-use psi_deal::{ReceiverDeal, SenderDeal, deal};
+use psi_base::{Words, World};
 use psi_items::Items;
 use psi_log::{Recorder, write_record};
 use psi_texts::Status;
-use psi_walk::{Outcome, outcome_of, place_items, print_shown, read_items, write_word};
-use psi_words::{CommandForms, Form, bad_word, seed_of, session_of, sizes_of, word_at};
+use psi_walk::{
+    Outcome, deals_of_words, outcome_of, place_items, print_shown, read_as, write_word,
+};
+use psi_words::{CommandForms, Form, bad_word};
 use std::alloc::Global;
 
 const LOCAL: CommandForms = CommandForms {
@@ -34,21 +34,6 @@ const LOCAL: CommandForms = CommandForms {
     ],
     optional: &[Form::Output { from: 1, to: 3 }],
 };
-
-// The pair of deals that the words name. Words in form name no sizes that deals can't have.
-#[tactic(auto, unfolding(crate::specs::Local::local_receiver, crate::specs::Local::local_sender))]
-fn local_deals(alloc: Global, words: &Words) -> Result<(ReceiverDeal, SenderDeal), NoMemory>
-    requires fit { bad_word local_forms words.now ≡ None }
-    ensures receiver { IfOk result (λ deals. deals.0 ≡ local_receiver words.now) }
-    ensures sender { IfOk result (λ deals. deals.1 ≡ local_sender words.now) }
-    ensures sizes { IfOk result (λ deals. IsReceiverDeal deals.0 × IsSenderDeal deals.1) }
-    ensures pair { IfOk result (λ deals. ArePair deals.0 deals.1) }
-{
-    let seed = seed_of(word_at(words, 3));
-    let session = session_of(word_at(words, 4));
-    let (tag_length, stash) = sizes_of(word_at(words, 5));
-    deal(alloc, &seed, session, tag_length, stash).map_err(|_| NoMemory)
-}
 
 // Writes a record, if there is one.
 fn keep_record<W: World>(words: &Words, log: Option<Recorder>, world: &mut W) -> Result<(), Status>
@@ -81,7 +66,7 @@ fn show_and_keep<W: World>(
 }
 
 // What `local` does once its files are read.
-#[tactic(auto, using(psi_walk::proofs::Walks::walk))]
+#[tactic(auto, using(psi_walk::proofs::Walks::walk, crate::proofs::LocalWords::local_words))]
 fn place_and_play<W: World>(
     alloc: Global,
     words: &Words,
@@ -93,7 +78,7 @@ fn place_and_play<W: World>(
     ensures { Runs W.known words.now (local_set words.now x.now y.now) (W.outside world.old)
         (end_of result (W.outside world.new)) }
 {
-    let deals = local_deals(alloc, words)?;
+    let deals = deals_of_words(alloc, words, 3)?;
     let digests = x.digests(alloc)?;
     let placement = place_items(alloc, 1, x, &digests, &deals.0)?;
     let size = session_length(&deals.0, x.len(), y.len());
@@ -110,8 +95,8 @@ fn local_steps<W: World>(alloc: Global, words: &Words, world: &mut W) -> Result<
     ensures { Runs W.known words.now (local_tree words.now) (W.outside world.old)
         (end_of result (W.outside world.new)) }
 {
-    let x = read_items(alloc, words, 1, world)?;
-    let y = read_items(alloc, words, 2, world)?;
+    let x: Items = read_as(alloc, words, 1, world)?;
+    let y: Items = read_as(alloc, words, 2, world)?;
     place_and_play(alloc, words, &x, &y, world)
 }
 

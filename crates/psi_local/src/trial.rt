@@ -16,10 +16,10 @@ ghost use Rattle.psi_local.specs.Trial.{measured, numbered, summary_text, trial_
 use crate::playing::{PlayedSession, placed_outcome, play, receiver_length, sender_length};
 use itoa::Buffer;
 use psi_base::{NoMemory, USUAL_STASH, Words, World, bins, rows};
-use psi_deal::{ReceiverDeal, SenderDeal, deal};
+use psi_deal::{ReceiverDeal, SenderDeal};
 use psi_items::{Items, MadeFile, make_file};
 use psi_texts::Status;
-use psi_walk::{Outcome, outcome_of, place_items, print_text};
+use psi_walk::{Outcome, deals_of_seed, outcome_of, place_items, print_text};
 use psi_words::{CommandForms, Form, bad_word, counts_of, seed_of, word_at};
 use std::alloc::{AllocError, Global};
 
@@ -68,7 +68,7 @@ fn trial_deals(alloc: Global, words: &Words) -> Result<(ReceiverDeal, SenderDeal
     ensures pair { IfOk result (λ deals. ArePair deals.0 deals.1) }
 {
     let seed = seed_of(word_at(words, 3));
-    deal(alloc, &seed, 0, 16, USUAL_STASH).map_err(|_| NoMemory)
+    deals_of_seed(alloc, &seed, 0, 16, USUAL_STASH)
 }
 
 // How many marks are set.

@@ -10,7 +10,7 @@ use Rattle.psi_walk.specs.declared.outcome.Outcome.{Outcome}
 use Rattle.psi_texts.specs.declared.status.Status.{Status}
 use Rattle.psi_texts.specs.declared.status.Status.TheVariants as status
 use Rattle.psi_walk.proofs.Answered.{follows_answers}
-use Rattle.psi_walk.proofs.Commands.{on_named, runs_in_form}
+use Rattle.psi_walk.proofs.Commands.{runs_in_form}
 use Rattle.psi_walk.proofs.Counted.{follows_counted}
 use Rattle.psi_walk.proofs.Laws.{runs_complete, runs_exact, runs_in_words, runs_stand}
 use Rattle.psi_walk.proofs.Left.{follows_leaves}

@@ -5,4 +5,4 @@ mod entry;
 
 pub use entry::run;
 pub use psi_texts::{Status, fault_line, status_number};
-pub use psi_walk::{Outcome, Placements};
+pub use psi_walk::Placements;

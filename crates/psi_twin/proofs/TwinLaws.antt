@@ -9,7 +9,7 @@ use Rattle.psi_spec.specs.Placement.{Slot}
 use Rattle.psi_spec.proofs.DealFiles.{length-receiver_bytes, length-sender_bytes}
 use Rattle.psi_base.specs.Outside.{Known, Outside, Files}
 use Rattle.psi_walk.specs.Due.{told}
-use Rattle.psi_walk.specs.Files.{items_in, reads_items, reads_receiver, reads_sender, receiver_in, sender_in}
+use Rattle.psi_walk.specs.Files.{items_in, reads_file, reads_items, reads_receiver, reads_sender, receiver_in, sender_in}
 use Rattle.psi_walk.specs.JudgedFiles.{HasItems, HasReceiverDeal}
 use Rattle.psi_walk.specs.Promises.{IsAnswered, IsFailedEffect, IsOfEnd, IsReady, IsSilent, IsUnread, Leaves, WriteFailed}
 use Rattle.psi_spec.specs.Meeting.{placed_of}
@@ -275,7 +275,7 @@ sets_are_ready words files before can =
 
 sender_is_ready : (words : List (List ℕ)) (files : Files) (before : Outside) (can : CanTwin words files)
     → IsReady (told (Some files) words) before (reads_sender 4 (λ sender. twin_sets can.receiver sender (items_of can.x.bytes) (items_of can.other.bytes)))
-unfolding reads_sender
+unfolding reads_file
 sender_is_ready words files before can = (
   sender_bytes can.sender,
   is_there files words 4 (sender_bytes can.sender) can.s_there,
@@ -287,7 +287,7 @@ sender_is_ready words files before can = (
 
 receiver_is_ready : (words : List (List ℕ)) (files : Files) (before : Outside) (can : CanTwin words files)
     → IsReady (told (Some files) words) before (reads_receiver 3 (λ receiver. reads_sender 4 (λ sender. twin_sets receiver sender (items_of can.x.bytes) (items_of can.other.bytes))))
-unfolding reads_receiver
+unfolding reads_file
 receiver_is_ready words files before can = (
   receiver_bytes can.receiver,
   is_there files words 3 (receiver_bytes can.receiver) can.r_there,
@@ -300,7 +300,7 @@ receiver_is_ready words files before can = (
 second_is_ready : (words : List (List ℕ)) (files : Files) (before : Outside) (can : CanTwin words files)
     → IsReady (told (Some files) words) before
     (reads_items 2 (λ others. reads_receiver 3 (λ receiver. reads_sender 4 (λ sender. twin_sets receiver sender (items_of can.x.bytes) others))))
-unfolding reads_items
+unfolding reads_file
 second_is_ready words files before can = (
   can.other.bytes,
   is_there files words 2 can.other.bytes can.other.there,
@@ -311,7 +311,7 @@ second_is_ready words files before can = (
 )
 
 twin_is_ready : (words : List (List ℕ)) (files : Files) (before : Outside) (can : CanTwin words files) → IsReady (told (Some files) words) before twin_tree
-unfolding reads_items
+unfolding reads_file
 twin_is_ready words files before can = (
   can.x.bytes,
   is_there files words 1 can.x.bytes can.x.there,

@@ -19,10 +19,7 @@ use psi_deal::{ReceiverDeal, SenderDeal, deals_differ};
 use psi_items::Items;
 use psi_receiver::row_words;
 use psi_texts::Status;
-use psi_walk::{
-    Outcome, Placements, outcome_of, place_items, read_items, read_receiver_deal, read_sender_deal,
-    status, write_word,
-};
+use psi_walk::{Outcome, Placements, outcome_of, place_items, read_as, status, write_word};
 use psi_words::{CommandForms, Form, bad_word};
 use std::alloc::Global;
 
@@ -125,10 +122,10 @@ fn judge_and_place<W: World>(
 fn twin_steps<W: World>(alloc: Global, words: &Words, world: &mut W) -> Result<Outcome, Status>
     ensures { Runs W.known words.now twin_tree (W.outside world.old) (end_of result (W.outside world.new)) }
 {
-    let x = read_items(alloc, words, 1, world)?;
-    let others = read_items(alloc, words, 2, world)?;
-    let receiver = read_receiver_deal(alloc, words, 3, world)?;
-    let sender = read_sender_deal(alloc, words, 4, world)?;
+    let x: Items = read_as(alloc, words, 1, world)?;
+    let others: Items = read_as(alloc, words, 2, world)?;
+    let receiver: ReceiverDeal = read_as(alloc, words, 3, world)?;
+    let sender: SenderDeal = read_as(alloc, words, 4, world)?;
     judge_and_place(alloc, words, &x, &others, &(receiver, sender), world)
 }
 

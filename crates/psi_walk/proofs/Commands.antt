@@ -1,5 +1,5 @@
 -- Runs of the command that a name means.
-use Rattle.std.proofs.Common.{◌≡◌, ℕ, Bool, true, false, cond, List, [], ◌∷◌, ◌++◌, Option, Some, None, refl, sym, subst}
+use Rattle.std.proofs.Common.{◌≡◌, ℕ, Bool, true, false, cond, List, [], ◌∷◌, ◌++◌, Option, Some, None, subst}
 use Rattle.std.specs.Str.{bytes_eq}
 use Rattle.psi_words.specs.Words.{bad_word, word_at}
 use Rattle.psi_base.specs.Outside.{Known, Outside}

@@ -16,7 +16,7 @@ use Rattle.psi_deal.specs.declared.errors.BadDeal.{BadDeal as DealFault}
 use Rattle.psi_items.specs.Reading.{bad_items_of}
 use Rattle.psi_log.specs.BadRecords.{bad_record}
 use Rattle.psi_log.specs.declared.errors.BadRecord.{BadRecord as RecordFault}
-use Rattle.psi_walk.specs.Files.{items_in, judged_items, judged_old, judged_receiver, judged_record, judged_sender, old_deal_in, reads_items, reads_old, reads_receiver, reads_record, reads_sender, receiver_in, record_in, sender_in}
+use Rattle.psi_walk.specs.Files.{items_in, judged_items, judged_old, judged_receiver, judged_record, judged_sender, old_deal_in, reads_file, reads_items, reads_old, reads_receiver, reads_record, reads_sender, receiver_in, record_in, sender_in}
 use Rattle.psi_walk.specs.JudgedFiles.{HasBadLine, HasBadOldDeal, HasBadReceiverDeal, HasBadRecord, HasBadSenderDeal, HasItems, HasOldDeal, HasReceiverDeal, HasRecord, HasSenderDeal}
 use Rattle.psi_walk.specs.Promises.{IsAnswered, IsSilent, IsUnread, Leaves, WasRead}
 use Rattle.psi_walk.specs.Tree.{Tree, reads, decides, End}
@@ -89,7 +89,7 @@ has_bad_line known words before word bytes line read e = record { bytes = bytes;
 pub left_items : (known : Known) (words : List (List ℕ)) (word : ℕ) (next : List (List ℕ) → Tree) (before : Outside) (end : End)
     → Leaves known words (reads_items word next) before end
     → (items : List (List ℕ)) × HasItems known words before word items × Leaves known words (next items) before end
-unfolding reads_items
+unfolding reads_file
 left_items known words word next before end h =
     let read = left_decides known words (items_in word h.0) next before end h.2 in
     (read.0, has_items known words before word h.0 read.0 h.1 read.1, read.2)
@@ -97,7 +97,7 @@ left_items known words word next before end h =
 pub answered_items : (known : Known) (words : List (List ℕ)) (word : ℕ) (next : List (List ℕ) → Tree) (before : Outside)
     (slots : List (List Slot)) (why : Status) (after : Outside) → IsAnswered known words false (reads_items word next) before slots why after
     → AtFile known words before word file_limit (items_in word) slots why after (λ items. IsAnswered known words false (next items) before slots why after)
-unfolding reads_items
+unfolding reads_file
 answered_items known words word next before slots why after h = answered_file known words word file_limit (items_in word) next before slots why after h
 
 -- ---- sender's deal files
@@ -134,7 +134,7 @@ has_bad_sender known words before word bytes fault read e = record { bytes = byt
 pub left_sender : (known : Known) (words : List (List ℕ)) (word : ℕ) (next : SenderDeal → Tree) (before : Outside) (end : End)
     → Leaves known words (reads_sender word next) before end
     → (deal : SenderDeal) × HasSenderDeal known words before word deal × Leaves known words (next deal) before end
-unfolding reads_sender
+unfolding reads_file
 left_sender known words word next before end h =
     let read = left_decides known words (sender_in word h.0) next before end h.2 in
     (read.0, has_sender known words before word h.0 read.0 h.1 read.1, read.2)
@@ -142,7 +142,7 @@ left_sender known words word next before end h =
 pub answered_sender : (known : Known) (words : List (List ℕ)) (word : ℕ) (next : SenderDeal → Tree) (before : Outside)
     (slots : List (List Slot)) (why : Status) (after : Outside) → IsAnswered known words false (reads_sender word next) before slots why after
     → AtFile known words before word file_limit (sender_in word) slots why after (λ deal. IsAnswered known words false (next deal) before slots why after)
-unfolding reads_sender
+unfolding reads_file
 answered_sender known words word next before slots why after h = answered_file known words word file_limit (sender_in word) next before slots why after h
 
 -- ---- receiver's deal files
@@ -179,7 +179,7 @@ has_bad_receiver known words before word bytes fault read e = record { bytes = b
 pub left_receiver : (known : Known) (words : List (List ℕ)) (word : ℕ) (next : ReceiverDeal → Tree) (before : Outside) (end : End)
     → Leaves known words (reads_receiver word next) before end
     → (deal : ReceiverDeal) × HasReceiverDeal known words before word deal × Leaves known words (next deal) before end
-unfolding reads_receiver
+unfolding reads_file
 left_receiver known words word next before end h =
     let read = left_decides known words (receiver_in word h.0) next before end h.2 in
     (read.0, has_receiver known words before word h.0 read.0 h.1 read.1, read.2)
@@ -187,7 +187,7 @@ left_receiver known words word next before end h =
 pub answered_receiver : (known : Known) (words : List (List ℕ)) (word : ℕ) (next : ReceiverDeal → Tree) (before : Outside)
     (slots : List (List Slot)) (why : Status) (after : Outside) → IsAnswered known words false (reads_receiver word next) before slots why after
     → AtFile known words before word file_limit (receiver_in word) slots why after (λ deal. IsAnswered known words false (next deal) before slots why after)
-unfolding reads_receiver
+unfolding reads_file
 answered_receiver known words word next before slots why after h = answered_file known words word file_limit (receiver_in word) next before slots why after h
 
 -- ---- record files
@@ -266,7 +266,7 @@ has_bad_old known words before word bytes fault read e = record { bytes = bytes;
 pub left_old : (known : Known) (words : List (List ℕ)) (word : ℕ) (next : OldDeal → Tree) (before : Outside) (end : End)
     → Leaves known words (reads_old word next) before end
     → (deal : OldDeal) × HasOldDeal known words before word deal × Leaves known words (next deal) before end
-unfolding reads_old
+unfolding reads_file
 left_old known words word next before end h =
     let read = left_decides known words (old_deal_in word h.0) next before end h.2 in
     (read.0, has_old known words before word h.0 read.0 h.1 read.1, read.2)
@@ -274,7 +274,7 @@ left_old known words word next before end h =
 pub answered_old : (known : Known) (words : List (List ℕ)) (word : ℕ) (next : OldDeal → Tree) (before : Outside)
     (slots : List (List Slot)) (why : Status) (after : Outside) → IsAnswered known words false (reads_old word next) before slots why after
     → AtFile known words before word file_limit (old_deal_in word) slots why after (λ deal. IsAnswered known words false (next deal) before slots why after)
-unfolding reads_old
+unfolding reads_file
 answered_old known words word next before slots why after h = answered_file known words word file_limit (old_deal_in word) next before slots why after h
 
 -- the deal of a file that was read and judged

@@ -16,3 +16,4 @@ pub mod Unplaced
 pub mod Walked
 pub mod Walks
 pub mod Wired
+pub mod WordDeals

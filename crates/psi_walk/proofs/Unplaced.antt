@@ -6,7 +6,7 @@ use Rattle.psi_spec.specs.Placement.{Slot}
 use Rattle.psi_base.specs.Outside.{Known, Outside, linked}
 use Rattle.psi_frames.specs.Dialogue.{talked}
 use Rattle.psi_deal.specs.declared.old_files.OldDeal.{OldDeal}
-use Rattle.psi_walk.specs.Files.{items_in, old_deal_in, reads_items, reads_old, reads_sender, sender_in}
+use Rattle.psi_walk.specs.Files.{items_in, old_deal_in, reads_file, reads_items, reads_old, reads_sender, sender_in}
 use Rattle.psi_walk.specs.Promises.{IsAnswered}
 use Rattle.psi_walk.specs.Tree.{Effect, Tree, reads, refuses, places, opens, talks, holds, ends, decides}
 use Rattle.psi_texts.specs.declared.status.Status.{Status}
@@ -31,15 +31,15 @@ decides_none (Ok x) next h = h x
 decides_none (Err why) next h = tt
 
 pub items_place_none : (word : ℕ) (next : List (List ℕ) → Tree) → ((items : List (List ℕ)) → PlacesNone (next items)) → PlacesNone (reads_items word next)
-unfolding PlacesNone reads_items
+unfolding PlacesNone reads_file
 items_place_none word next h = λ bytes. decides_none (items_in word bytes) next h
 
 pub sender_places_none : (word : ℕ) (next : SenderDeal → Tree) → ((deal : SenderDeal) → PlacesNone (next deal)) → PlacesNone (reads_sender word next)
-unfolding PlacesNone reads_sender
+unfolding PlacesNone reads_file
 sender_places_none word next h = λ bytes. decides_none (sender_in word bytes) next h
 
 pub old_places_none : (word : ℕ) (next : OldDeal → Tree) → ((deal : OldDeal) → PlacesNone (next deal)) → PlacesNone (reads_old word next)
-unfolding PlacesNone reads_old
+unfolding PlacesNone reads_file
 old_places_none word next h = λ bytes. decides_none (old_deal_in word bytes) next h
 
 pub none_is_placed : (known : Known) (words : List (List ℕ)) (taken : Bool) (tree : Tree) (before : Outside) (slots : List (List Slot)) (why : Status) (after : Outside)

@@ -2,13 +2,11 @@
 use Rattle.std.proofs.Common.{◌≡◌, ℕ, Bool, false, true, List, [], ◌∷◌, Option, None, Ok, Err, IsErrAnd, refl, sym, ap₂, subst}
 use Rattle.std.specs.declared.result.Result.{Result}
 use Rattle.psi_spec.specs.CrowdedLists.{touched_by}
-use Rattle.psi_spec.specs.Deals.{ReceiverDeal, SenderDeal}
 use Rattle.psi_spec.specs.Frames.{AreBytes}
 use Rattle.psi_spec.specs.Placement.{Slot}
 use Rattle.psi_spec.specs.Records.{LoggedSession}
 use Rattle.psi_base.specs.Outside.{Known, Outside}
-use Rattle.psi_deal.specs.declared.old_files.OldDeal.{OldDeal}
-use Rattle.psi_walk.specs.Files.{reads_items, reads_old, reads_receiver, reads_record, reads_sender}
+use Rattle.psi_walk.specs.Files.{reads_file, reads_record}
 use Rattle.psi_walk.specs.Tree.{Placing, Tree, reads, refuses, places, opens, talks, holds, ends, Effect, says, puts, decides, End, stopped, end_of, with_slots, ended}
 use Rattle.psi_frames.specs.Dialogue.{Dialogue, Talks}
 use Rattle.psi_frames.specs.declared.turns.EndFault.{EndFault}
@@ -148,25 +146,13 @@ run_of known words tree before after answer outcome same h = subst (Runs known w
 
 -- ---- steps that read and judge a file
 
-pub items_starve : (word : ℕ) (next : List (List ℕ) → Tree) → CanStarve (reads_items word next)
-unfolding reads_items
-items_starve word next = tt
-
-pub sender_starves : (word : ℕ) (next : SenderDeal → Tree) → CanStarve (reads_sender word next)
-unfolding reads_sender
-sender_starves word next = tt
-
-pub receiver_starves : (word : ℕ) (next : ReceiverDeal → Tree) → CanStarve (reads_receiver word next)
-unfolding reads_receiver
-receiver_starves word next = tt
+pub file_starves : {A : Type 0} (held : ℕ → List ℕ → Result A Status) (word : ℕ) (next : A → Tree) → CanStarve (reads_file held word next)
+unfolding reads_file
+file_starves held word next = tt
 
 pub record_starves : (word : ℕ) (next : LoggedSession → Tree) → CanStarve (reads_record word next)
 unfolding reads_record
 record_starves word next = tt
-
-pub old_starves : (word : ℕ) (next : OldDeal → Tree) → CanStarve (reads_old word next)
-unfolding reads_old
-old_starves word next = tt
 
 -- what every exit of a command may cite
 pub ruleset walk = (
@@ -177,9 +163,6 @@ pub ruleset walk = (
   settles_out,
   places_out,
   decides_starve,
-  items_starve,
-  sender_starves,
-  receiver_starves,
+  file_starves,
   record_starves,
-  old_starves,
 )

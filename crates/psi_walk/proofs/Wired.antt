@@ -5,7 +5,7 @@ use Rattle.psi_spec.specs.Placement.{Slot}
 use Rattle.psi_words.specs.Words.{word_at}
 use Rattle.psi_base.specs.Outside.{Known, Outside, Writes, PrintsAll, Opens}
 use Rattle.psi_frames.specs.Dialogue.{Talks}
-use Rattle.psi_walk.specs.Files.{items_in, old_deal_in, reads_items, reads_old, reads_receiver, reads_record, reads_sender, receiver_in, record_in, sender_in}
+use Rattle.psi_walk.specs.Files.{items_in, old_deal_in, reads_file, reads_items, reads_old, reads_receiver, reads_record, reads_sender, receiver_in, record_in, sender_in}
 use Rattle.psi_walk.specs.Tree.{Effect, says, puts, Placing, Tree, reads, refuses, places, opens, talks, holds, ends, decides, End, stopped}
 use Rattle.psi_walk.specs.Walk.{AtCall, AtPlace, AtRefusal, AtEnd, starved, cut, passed, hungry, crowded, placed, given_up, refused, gave_up, all_done, Does, Follows, Gives, read_status, write_status, print_status, open_status, talk_status}
 use Rattle.psi_texts.specs.declared.status.Status.{Status}
@@ -96,19 +96,19 @@ decides_wired may (Ok x) next h = h x
 decides_wired may (Err why) next h = tt
 
 pub items_wired : (may : Bool) (word : ℕ) (next : List (List ℕ) → Tree) → ((items : List (List ℕ)) → MayBeWired may (next items)) → MayBeWired may (reads_items word next)
-unfolding MayBeWired reads_items
+unfolding MayBeWired reads_file
 items_wired may word next h = λ bytes. decides_wired may (items_in word bytes) next h
 
 pub receiver_wired : (may : Bool) (word : ℕ) (next : ReceiverDeal → Tree) → ((deal : ReceiverDeal) → MayBeWired may (next deal)) → MayBeWired may (reads_receiver word next)
-unfolding MayBeWired reads_receiver
+unfolding MayBeWired reads_file
 receiver_wired may word next h = λ bytes. decides_wired may (receiver_in word bytes) next h
 
 pub sender_wired : (may : Bool) (word : ℕ) (next : SenderDeal → Tree) → ((deal : SenderDeal) → MayBeWired may (next deal)) → MayBeWired may (reads_sender word next)
-unfolding MayBeWired reads_sender
+unfolding MayBeWired reads_file
 sender_wired may word next h = λ bytes. decides_wired may (sender_in word bytes) next h
 
 pub old_wired : (may : Bool) (word : ℕ) (next : OldDeal → Tree) → ((deal : OldDeal) → MayBeWired may (next deal)) → MayBeWired may (reads_old word next)
-unfolding MayBeWired reads_old
+unfolding MayBeWired reads_file
 old_wired may word next h = λ bytes. decides_wired may (old_deal_in word bytes) next h
 
 pub record_wired : (may : Bool) (word : ℕ) (next : LoggedSession → Tree) → ((log : LoggedSession) → MayBeWired may (next log)) → MayBeWired may (reads_record word next)

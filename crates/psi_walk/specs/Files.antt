@@ -16,6 +16,10 @@ use Rattle.psi_walk.specs.Tree.{Tree, reads, decides}
 use Rattle.psi_texts.specs.declared.status.Status.{Status}
 use Rattle.psi_texts.specs.declared.status.Status.TheVariants.{BadDeal, BadItems, BadRecord}
 
+-- the steps that read the file of a word and judge it: what its bytes hold for that word, or why it is refused
+unfoldable pub reads_file : {A : Type 0} → (ℕ → List ℕ → Result A Status) → ℕ → (A → Tree) → Tree
+reads_file held word next = reads word file_limit (λ bytes. decides (held word bytes) next)
+
 -- the items of the file of a word, or the fault of its first bad line
 abbrev pub judged_items : ℕ → List ℕ → Option BadLine → Result (List (List ℕ)) Status
 judged_items word bytes None = Ok (items_of bytes)
@@ -25,8 +29,8 @@ unfoldable pub items_in : ℕ → List ℕ → Result (List (List ℕ)) Status
 items_in word bytes = judged_items word bytes (first_bad bytes)
 
 -- the steps that read the item file of a word and judge it
-unfoldable pub reads_items : ℕ → (List (List ℕ) → Tree) → Tree
-reads_items word next = reads word file_limit (λ bytes. decides (items_in word bytes) next)
+abbrev pub reads_items : ℕ → (List (List ℕ) → Tree) → Tree
+reads_items = reads_file items_in
 
 -- the sender's deal that the file of a word spells, or why it is none
 abbrev pub judged_sender : ℕ → List ℕ → Option DealFault → Result SenderDeal Status
@@ -37,8 +41,8 @@ unfoldable pub sender_in : ℕ → List ℕ → Result SenderDeal Status
 sender_in word bytes = judged_sender word bytes (bad_deal 1 sender_file_size bytes)
 
 -- the steps that read the sender's deal file of a word and judge it
-unfoldable pub reads_sender : ℕ → (SenderDeal → Tree) → Tree
-reads_sender word next = reads word file_limit (λ bytes. decides (sender_in word bytes) next)
+abbrev pub reads_sender : ℕ → (SenderDeal → Tree) → Tree
+reads_sender = reads_file sender_in
 
 -- the receiver's deal that the file of a word spells, or why it is none
 abbrev pub judged_receiver : ℕ → List ℕ → Option DealFault → Result ReceiverDeal Status
@@ -49,8 +53,8 @@ unfoldable pub receiver_in : ℕ → List ℕ → Result ReceiverDeal Status
 receiver_in word bytes = judged_receiver word bytes (bad_deal 0 receiver_file_size bytes)
 
 -- the steps that read the receiver's deal file of a word and judge it
-unfoldable pub reads_receiver : ℕ → (ReceiverDeal → Tree) → Tree
-reads_receiver word next = reads word file_limit (λ bytes. decides (receiver_in word bytes) next)
+abbrev pub reads_receiver : ℕ → (ReceiverDeal → Tree) → Tree
+reads_receiver = reads_file receiver_in
 
 -- what the record file spells, or why it is none
 abbrev pub judged_record : List ℕ → Option RecordFault → Result LoggedSession Status
@@ -73,5 +77,5 @@ unfoldable pub old_deal_in : ℕ → List ℕ → Result OldDeal Status
 old_deal_in word bytes = judged_old word bytes (bad_old_deal bytes)
 
 -- the steps that read the deal file of version 1 of a word and judge it
-unfoldable pub reads_old : ℕ → (OldDeal → Tree) → Tree
-reads_old word next = reads word file_limit (λ bytes. decides (old_deal_in word bytes) next)
+abbrev pub reads_old : ℕ → (OldDeal → Tree) → Tree
+reads_old = reads_file old_deal_in

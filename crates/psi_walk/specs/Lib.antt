@@ -4,6 +4,7 @@ pub mod Files
 pub mod Hiding
 pub mod Inputs
 pub mod JudgedFiles
+pub mod NamedDeals
 pub mod Placing
 pub mod Promises
 pub mod Tree

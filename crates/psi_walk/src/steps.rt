@@ -1,18 +1,15 @@
 // The steps of the commands.
 ghost use Rattle.std.specs.Prelude.{◌≡◌, ◌≤◌, Bool, List, ℕ, IfOk, IsTrue, OnOk, length};
-ghost use Rattle.psi_spec.specs.Deals.{IsReceiverDeal, IsSenderDeal};
 ghost use Rattle.psi_spec.specs.Frames.{AreBytes};
-ghost use Rattle.psi_spec.specs.Limits.{file_limit, record_limit};
+ghost use Rattle.psi_spec.specs.Limits.{record_limit};
 ghost use Rattle.psi_base.specs.Outside.{as_list, link_to};
 ghost use Rattle.psi_words.specs.Words.{word_at as word_of};
-ghost use Rattle.psi_walk.specs.Files.{items_in, record_in, reads_items, reads_receiver, reads_sender, receiver_in, sender_in, old_deal_in, reads_old};
+ghost use Rattle.psi_walk.specs.Files.{record_in};
 ghost use Rattle.psi_walk.specs.Tree.{puts, says};
-ghost use Rattle.psi_walk.specs.Walk.{Makes, Settles, Steps, StepsOpen, StepsRead, status_of, talk_status};
+ghost use Rattle.psi_walk.specs.Walk.{Makes, Settles, StepsOpen, StepsRead, status_of, talk_status};
 
-use psi_base::{FILE_LIMIT, Fault, ReadFault, Side, Words, World, print_all};
-use psi_deal::{BadDeal, OldDeal, ReceiverDeal, SenderDeal, read_old, read_receiver, read_sender};
+use psi_base::{Fault, ReadFault, Side, Words, World, print_all};
 use psi_frames::EndFault;
-use psi_items::{BadItems, Items};
 use psi_log::{BadRecord, LoggedSession, read_record};
 use psi_texts::Status;
 use psi_words::word_at;
@@ -36,97 +33,6 @@ pub fn read_bytes<W: World>(
         Err(ReadFault::Failed) => Err(Status::FileFault { word }),
         Err(ReadFault::TooLong { taken }) => Err(Status::TooLong { word, taken }),
         Err(ReadFault::NoMemory) => Err(Status::NoMemory),
-    }
-}
-
-// The items of the file of a word.
-#[tactic(auto, unfolding(crate::specs::Files::items_in))]
-fn judge_items(alloc: Global, word: u8, bytes: &[u8]) -> Result<Items, Status>
-    requires { length bytes.now ≤ file_limit }
-    ensures settles { Settles (items_in word bytes.now) result }
-    ensures are_bytes { AreBytes bytes.now }
-{
-    match Items::read(alloc, bytes) {
-        Ok(items) => Ok(items),
-        Err(BadItems::NoMemory) => Err(Status::NoMemory),
-        Err(fault) => Err(Status::BadItems { word, fault }),
-    }
-}
-
-/// Reads the item file that the word at this place names.
-pub fn read_items<W: World>(
-    alloc: Global,
-    words: &Words,
-    word: u8,
-    world: &mut W,
-) -> Result<Items, Status>
-    ensures { Steps W.known words.now (reads_items word) (W.outside world.old) result (W.outside world.new) }
-{
-    match read_bytes(alloc, words, word, FILE_LIMIT, world) {
-        Ok(bytes) => judge_items(alloc, word, &bytes),
-        Err(status) => Err(status),
-    }
-}
-
-// The sender's deal of the file of a word.
-#[tactic(auto, unfolding(crate::specs::Files::sender_in))]
-fn judge_sender(alloc: Global, word: u8, bytes: &[u8]) -> Result<SenderDeal, Status>
-    requires { length bytes.now ≤ file_limit }
-    ensures settles { Settles (sender_in word bytes.now) result }
-    ensures are_bytes { AreBytes bytes.now }
-    ensures deal { IfOk result IsSenderDeal }
-{
-    match read_sender(alloc, bytes) {
-        Ok(deal) => Ok(deal),
-        Err(BadDeal::NoMemory) => Err(Status::NoMemory),
-        Err(fault) => Err(Status::BadDeal { word, fault }),
-    }
-}
-
-/// Reads the sender's deal file that the word at this place names.
-pub fn read_sender_deal<W: World>(
-    alloc: Global,
-    words: &Words,
-    word: u8,
-    world: &mut W,
-) -> Result<SenderDeal, Status>
-    ensures steps { Steps W.known words.now (reads_sender word) (W.outside world.old) result (W.outside world.new) }
-    ensures deal { IfOk result IsSenderDeal }
-{
-    match read_bytes(alloc, words, word, FILE_LIMIT, world) {
-        Ok(bytes) => judge_sender(alloc, word, &bytes),
-        Err(status) => Err(status),
-    }
-}
-
-// The receiver's deal of the file of a word.
-#[tactic(auto, unfolding(crate::specs::Files::receiver_in))]
-fn judge_receiver(alloc: Global, word: u8, bytes: &[u8]) -> Result<ReceiverDeal, Status>
-    requires { length bytes.now ≤ file_limit }
-    ensures settles { Settles (receiver_in word bytes.now) result }
-    ensures are_bytes { AreBytes bytes.now }
-    ensures deal { IfOk result IsReceiverDeal }
-{
-    match read_receiver(alloc, bytes) {
-        Ok(deal) => Ok(deal),
-        Err(BadDeal::NoMemory) => Err(Status::NoMemory),
-        Err(fault) => Err(Status::BadDeal { word, fault }),
-    }
-}
-
-/// Reads the receiver's deal file that the word at this place names.
-pub fn read_receiver_deal<W: World>(
-    alloc: Global,
-    words: &Words,
-    word: u8,
-    world: &mut W,
-) -> Result<ReceiverDeal, Status>
-    ensures steps { Steps W.known words.now (reads_receiver word) (W.outside world.old) result (W.outside world.new) }
-    ensures deal { IfOk result IsReceiverDeal }
-{
-    match read_bytes(alloc, words, word, FILE_LIMIT, world) {
-        Ok(bytes) => judge_receiver(alloc, word, &bytes),
-        Err(status) => Err(status),
     }
 }
 
@@ -206,34 +112,5 @@ pub fn status(rest: Result<(), Status>) -> Status
     match rest {
         Ok(()) => Status::Done,
         Err(status) => status,
-    }
-}
-
-// The deal of the file of version 1 of a word.
-#[tactic(auto, unfolding(crate::specs::Files::old_deal_in))]
-fn judge_old(alloc: Global, word: u8, bytes: &[u8]) -> Result<OldDeal, Status>
-    requires { length bytes.now ≤ file_limit }
-    ensures settles { Settles (old_deal_in word bytes.now) result }
-    ensures are_bytes { AreBytes bytes.now }
-{
-    match read_old(alloc, bytes) {
-        Ok(deal) => Ok(deal),
-        Err(BadDeal::NoMemory) => Err(Status::NoMemory),
-        Err(fault) => Err(Status::BadDeal { word, fault }),
-    }
-}
-
-/// Reads the deal file of version 1 that the word at this place names.
-pub fn read_old_deal<W: World>(
-    alloc: Global,
-    words: &Words,
-    word: u8,
-    world: &mut W,
-) -> Result<OldDeal, Status>
-    ensures { Steps W.known words.now (reads_old word) (W.outside world.old) result (W.outside world.new) }
-{
-    match read_bytes(alloc, words, word, FILE_LIMIT, world) {
-        Ok(bytes) => judge_old(alloc, word, &bytes),
-        Err(status) => Err(status),
     }
 }

@@ -19,7 +19,7 @@ returns g c =
     let end = ended c.of.result after in
     let done : Follows known words true (ends None []) after end =
     subst (λ (o : Outcome). Follows known words true (ends None []) after (ended o after)) (sym c.of.ensures) (ends_done known words true after) in
-    c.in_ok-items.ensures (λ ys. reads_sender 3 (λ d. send_rest words ys d)) end
+    c.in_ok-items.ensures.steps (λ ys. reads_sender 3 (λ d. send_rest words ys d)) end
     (c.in_ok-deal.ensures.steps (λ d. send_rest words items d) end
     (c.in_ok-open_link.ensures.steps (talks (sender_dialogue deal items) (λ taken. holds (ends None []))) end
     (talked_on known words (sender_dialogue deal items) (λ (taken : List ℕ). Unit {0}) opened after (λ taken. holds (ends None [])) end
