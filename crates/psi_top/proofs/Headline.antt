@@ -2,7 +2,6 @@
 use Rattle.std.proofs.Common.{◌≡◌, ℕ, List, None, subst, codes}
 use Rattle.psi_words.specs.Words.{bad_word, word_at}
 use Rattle.psi_base.specs.Outside.{Known, Outside}
-use Rattle.psi_texts.specs.declared.status.Status.TheVariants as status
 use Rattle.psi_walk.specs.Command.{Keeps, OnNamed, named}
 use Rattle.psi_walk.specs.Tree.{End}
 use Rattle.psi_top.specs.Commands.{RunAnswers, bad_by, bad_place, commands}
