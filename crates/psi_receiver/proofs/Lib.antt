@@ -1,5 +1,6 @@
 pub mod Gathering
 pub mod RowCodes
+pub mod Placed
 pub mod Merging
 pub mod Awaited
 pub mod Hearing

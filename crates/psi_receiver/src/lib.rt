@@ -3,6 +3,7 @@
 
 mod blocks;
 mod carrying;
+mod inputs;
 pub mod laws;
 mod logged;
 mod marking;
@@ -16,6 +17,7 @@ mod run;
 mod session;
 #[cfg(test)]
 mod session_tests;
+mod sizes;
 mod steps;
 mod stream;
 #[cfg(test)]

@@ -9,18 +9,13 @@ ghost use Rattle.psi_receiver.specs.Logging.{HasRoomFor, IsMost, answer_size};
 ghost use Rattle.psi_receiver.specs.Running.{state_of};
 
 use crate::receiver::ReceiverCore;
+use crate::sizes::{BLOCK_TAGS, COLUMN_HEAD, DONE_SIZE, HELLO_SIZE, TAGS_HEAD};
 use psi_base::{INBOX_ROOM, NoMemory};
 use psi_deal::ReceiverDeal;
 use psi_frames::{End, Expect, Frame, Outbox, Turn, put};
 use psi_log::Recorder;
 use std::alloc::Global;
 use std::marker::Model;
-
-// The bytes of a hello's frame.
-const HELLO: u64 = 34;
-
-// The most tags of a frame.
-const BLOCK_TAGS: u32 = 1024;
 
 /// The receiver's end of a session, as a machine over frames, which is written down frame by frame.
 ///
@@ -86,10 +81,10 @@ fn most_after_hello(deal: &ReceiverDeal, rows: u32, count: u32) -> u64
     ensures exact { result ≡ answer_size (column_bytes rows) deal.now.tag_length count (3 + deal.now.stash) }
     ensures small { result + 34 < 2 ^ 64 }
 {
-    let columns = 512 * (7 + u64::from(rows.div_ceil(8)));
-    let headers = 10 * u64::from(count.div_ceil(BLOCK_TAGS));
+    let columns = 512 * (u64::from(COLUMN_HEAD) + u64::from(rows.div_ceil(8)));
+    let headers = u64::from(TAGS_HEAD) * u64::from(count.div_ceil(BLOCK_TAGS));
     let tags = u64::from(deal.width()) * u64::from(count);
-    columns + (u64::from(3 + deal.stash()) * (headers + tags) + 5)
+    columns + (u64::from(3 + deal.stash()) * (headers + tags) + u64::from(DONE_SIZE))
 }
 
 // Makes room in the record for a frame that is taken, and for all that goes over the wire after it. It is refused only
@@ -104,7 +99,7 @@ fn make_room(core: &ReceiverCore<'_>, frame: &Frame<'_>, log: &mut Recorder) -> 
 {
     if let Frame::SenderHello { count, .. } = frame {
         let most = most_after_hello(core.deal(), core.rows(), *count);
-        log.reserve(HELLO + most)?;
+        log.reserve(u64::from(HELLO_SIZE) + most)?;
     }
     Ok(())
 }

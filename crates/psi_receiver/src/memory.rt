@@ -6,18 +6,14 @@ ghost use Rattle.psi_spec.specs.Placement.{IsPlacementOf};
 ghost use Rattle.psi_receiver.specs.Own.{AreUnmarked, AreUnshown, marks_of};
 ghost use Rattle.psi_receiver.specs.Running.{IsMemory};
 
+use crate::inputs::Inputs;
 use crate::own::OwnTags;
 use crate::preparing::prepare;
+use crate::sizes::{COLUMN_HEAD, HELLO_SIZE};
 use psi_base::NoMemory;
 use psi_bits::Columns;
-use psi_cuckoo::Placement;
-use psi_deal::ReceiverDeal;
 use psi_frames::Outbox;
-use psi_items::Items;
 use std::alloc::Global;
-
-/// The bytes of a hello's frame.
-pub(crate) const HELLO: u32 = 34;
 
 /// All memory of a session, taken at once.
 #[derive(Drop)]
@@ -35,26 +31,20 @@ pub(crate) struct Memory {
 impl Memory {
     /// The memory for a session of items in their slots, with no own tag marked and nothing to be sent. It is refused
     /// only where memory is wanting.
-    pub(crate) fn new(
-        alloc: Global,
-        items: &Items,
-        digests: &[[u8; 32]],
-        deal: &ReceiverDeal,
-        placement: &Placement,
-    ) -> Result<Memory, NoMemory>
-        requires few { length items.now ≤ limit_items }
-        requires digests { digests.now ≡ map item_digest items.now }
-        requires placed { IsPlacementOf deal.now.stash deal.now.key (bins_for (length items.now))
-            items.now placement.now }
-        ensures memory { IfOk result (IsMemory deal.now items.now placement.now) }
+    pub(crate) fn new(alloc: Global, inputs: &Inputs<'_, '_>) -> Result<Memory, NoMemory>
+        requires few { length inputs.now.items.now ≤ limit_items }
+        requires digests { inputs.now.digests.now ≡ map item_digest inputs.now.items.now }
+        requires placed { IsPlacementOf inputs.now.deal.now.stash inputs.now.deal.now.key
+            (bins_for (length inputs.now.items.now)) inputs.now.items.now inputs.now.placement.now }
+        ensures memory { IfOk result (IsMemory inputs.now.deal.now inputs.now.items.now inputs.now.placement.now) }
         ensures unmarked { IfOk result (λ memory. AreUnmarked (marks_of memory.own)) }
         ensures unshown { IfOk result (λ memory. AreUnshown memory.shown.items) }
         ensures empty { IfOk result (λ memory. memory.outbox.pending ≡ []) }
     {
-        let prepared = prepare(alloc, items, digests, deal, placement)?;
-        let shown = vec![in alloc; false; items.len() as usize]?;
-        let column = 7 + prepared.sent.rows().div_ceil(8);
-        let outbox = Outbox::with_room(alloc, column.max(HELLO))?;
+        let prepared = prepare(alloc, inputs)?;
+        let shown = vec![in alloc; false; inputs.items.len() as usize]?;
+        let column = COLUMN_HEAD + prepared.sent.rows().div_ceil(8);
+        let outbox = Outbox::with_room(alloc, column.max(HELLO_SIZE))?;
         Ok(Memory {
             sent: prepared.sent,
             own: prepared.own,

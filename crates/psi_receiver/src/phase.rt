@@ -5,10 +5,8 @@ ghost use Rattle.psi_spec.specs.Streams.{blocks_for};
 ghost use Rattle.psi_receiver.specs.Phases.{first_of, next_phase};
 ghost use Rattle.psi_receiver.specs.Script.{tags_at};
 
+use crate::sizes::BLOCK_TAGS;
 use psi_oprf::Tag;
-
-/// The most tags of a frame.
-const BLOCK_TAGS: u32 = 1024;
 
 /// A block of a list that is awaited.
 #[derive(Clone, Copy, Debug, PartialEq, Eq)]

@@ -12,13 +12,12 @@ ghost use Rattle.psi_spec.specs.Sessions.{dealt_masked};
 ghost use Rattle.psi_spec.specs.Streams.{dealt_sets};
 ghost use Rattle.psi_receiver.specs.Own.{AreOwnTags, AreUnmarked, marks_of};
 
+use crate::inputs::Inputs;
 use crate::own::{OwnTags, own_tags};
 use crate::rows::row_words;
 use psi_base::{NoMemory, rows};
 use psi_bits::{Columns, Rows};
-use psi_cuckoo::Placement;
 use psi_deal::ReceiverDeal;
-use psi_items::Items;
 use psi_lanes::{flip, flip_back};
 use psi_oprf::xor_columns;
 use std::alloc::Global;
@@ -58,26 +57,28 @@ fn masked(alloc: Global, deal: &ReceiverDeal, words: Rows) -> Result<(Rows, Colu
 
 /// Makes all that a session is made of, for items with these digests and slots. It is refused only where memory is
 /// wanting, and takes three matrices at most, of which it leaves one.
-pub(crate) fn prepare(
-    alloc: Global,
-    items: &Items,
-    digests: &[[u8; 32]],
-    deal: &ReceiverDeal,
-    placement: &Placement,
-) -> Result<Prepared, NoMemory>
-    requires digests { digests.now ≡ map item_digest items.now }
-    requires placed { IsPlacementOf deal.now.stash deal.now.key (bins_for (length items.now)) items.now placement.now }
+pub(crate) fn prepare(alloc: Global, inputs: &Inputs<'_, '_>) -> Result<Prepared, NoMemory>
+    requires digests { inputs.now.digests.now ≡ map item_digest inputs.now.items.now }
+    requires placed { IsPlacementOf inputs.now.deal.now.stash inputs.now.deal.now.key
+        (bins_for (length inputs.now.items.now)) inputs.now.items.now inputs.now.placement.now }
     ensures sent { IfOk result (λ made. made.sent ≡ record {
-      rows = rows_for deal.now.stash (length items.now);
-      columns = dealt_masked deal.now (placed_of items.now placement.now);
+      rows = rows_for inputs.now.deal.now.stash (length inputs.now.items.now);
+      columns = dealt_masked inputs.now.deal.now (placed_of inputs.now.items.now inputs.now.placement.now);
     }) }
     ensures clean { IfOk result (λ made. IsCleanMatrix made.sent) }
-    ensures own { IfOk result (λ made. AreOwnTags deal.now placement.now made.own) }
+    ensures own { IfOk result (λ made. AreOwnTags inputs.now.deal.now inputs.now.placement.now made.own) }
     ensures unmarked { IfOk result (λ made. AreUnmarked (marks_of made.own)) }
 {
-    let mut words = Rows::with_rows(alloc, rows(items.len(), deal.stash()))?;
-    row_words(items, digests, deal.key(), placement, &mut words);
+    let deal = inputs.deal;
+    let mut words = Rows::with_rows(alloc, rows(inputs.items.len(), deal.stash()))?;
+    row_words(
+        inputs.items,
+        inputs.digests,
+        deal.key(),
+        inputs.placement,
+        &mut words,
+    );
     let (own_rows, sent) = masked(alloc, deal, words)?;
-    let own = own_tags(alloc, deal, placement, &own_rows)?;
+    let own = own_tags(alloc, deal, inputs.placement, &own_rows)?;
     Ok(Prepared { sent, own })
 }

@@ -6,6 +6,7 @@ ghost use Rattle.psi_spec.specs.Limits.{bins_for};
 ghost use Rattle.psi_spec.specs.Meeting.{placed_of};
 ghost use Rattle.psi_spec.specs.Placement.{IsPlacementOf};
 
+use crate::inputs::Inputs;
 use crate::session::Session;
 use psi_base::NoMemory;
 use psi_cuckoo::Placement;
@@ -59,7 +60,13 @@ impl<'a> ReceiverCore<'a> {
         ensures keeps { IfOk result (λ core. KeptSince core core []) }
     {
         let _id = deal.id();
-        let session = Session::begin(alloc, items, digests, deal, placement)?;
+        let inputs = Inputs {
+            items,
+            digests,
+            deal,
+            placement,
+        };
+        let session = Session::begin(alloc, &inputs)?;
         Ok(ReceiverCore { session })
     }
 

@@ -9,6 +9,7 @@ ghost use Rattle.psi_frames.specs.Expected.{seen};
 ghost use Rattle.psi_frames.specs.Script.{MayCome, after_sending, after_taking, due_frame, turn_of};
 ghost use Rattle.psi_receiver.specs.Own.{AreMarked};
 
+use crate::inputs::Inputs;
 use crate::memory::Memory;
 use crate::phase::{Merge, Phase};
 use crate::steps::{merge_block, put_column, put_done};
@@ -47,23 +48,18 @@ impl<'a> Session<'a> {
     ghost use Rattle.psi_receiver.specs.Running.{IsNewReceiver, TellsShown, state_of};
 
     /// The session of items in their slots: its hello is to be sent. It is refused only where memory is wanting.
-    pub(crate) fn begin(
-        alloc: Global,
-        items: &'a Items,
-        digests: &[[u8; 32]],
-        deal: &'a ReceiverDeal,
-        placement: &'a Placement,
-    ) -> Result<Session<'a>, NoMemory>
-        requires digests { digests.now ≡ map item_digest items.now }
-        requires placed { IsPlacementOf deal.now.stash deal.now.key (bins_for (length items.now))
-            items.now placement.now }
+    pub(crate) fn begin(alloc: Global, inputs: &Inputs<'a, '_>) -> Result<Session<'a>, NoMemory>
+        requires digests { inputs.now.digests.now ≡ map item_digest inputs.now.items.now }
+        requires placed { IsPlacementOf inputs.now.deal.now.stash inputs.now.deal.now.key
+            (bins_for (length inputs.now.items.now)) inputs.now.items.now inputs.now.placement.now }
         ensures new { IfOk result IsNewReceiver }
-        ensures deal { IfOk result (λ s. s.deal ≡ deal.now) }
-        ensures placed { IfOk result (λ s. s.placed ≡ placed_of items.now placement.now) }
-        ensures marks { IfOk result (λ s. AreMarked deal.now.tag_length [] s.lists) }
+        ensures deal { IfOk result (λ s. s.deal ≡ inputs.now.deal.now) }
+        ensures placed { IfOk result (λ s. s.placed ≡ placed_of inputs.now.items.now inputs.now.placement.now) }
+        ensures marks { IfOk result (λ s. AreMarked inputs.now.deal.now.tag_length [] s.lists) }
     {
-        let count = items.len();
-        let mut memory = Memory::new(alloc, items, digests, deal, placement)?;
+        let deal = inputs.deal;
+        let count = inputs.items.len();
+        let mut memory = Memory::new(alloc, inputs)?;
         put(
             &mut memory.outbox,
             &Frame::ReceiverHello {
@@ -74,8 +70,8 @@ impl<'a> Session<'a> {
         );
         Ok(Session {
             deal,
-            items,
-            placement,
+            items: inputs.items,
+            placement: inputs.placement,
             phase: Phase::Hello,
             memory,
         })

@@ -4,13 +4,13 @@ ghost use Rattle.psi_spec.specs.Formulas.{item_digest};
 ghost use Rattle.psi_spec.specs.Limits.{bins_for};
 ghost use Rattle.psi_spec.specs.Placement.{IsPlacementOf};
 
+use crate::inputs::Inputs;
 use crate::own::OwnTags;
 use crate::preparing::prepare;
-use crate::tests::hash_items;
+use crate::tests::placement;
 use crate::{LoggedReceiver, ReceiverCore, run_receiver};
-use psi_base::{QuietMem, Side, World, bins};
-use psi_cuckoo::{Placement, place};
-use psi_deal::{ReceiverDeal, deal};
+use psi_base::{QuietMem, Side, World};
+use psi_deal::deal;
 use psi_items::Items;
 use psi_log::Recorder;
 use psi_oprf::Tag;
@@ -35,20 +35,20 @@ fn sender_bytes(alloc: Global, tag: &[u8; 4]) -> Result<Vec<u8>, AllocError> {
 }
 
 // Whether the first item is shown by a session with that sender.
-fn shows(
-    alloc: Global,
-    items: &Items,
-    digests: &[[u8; 32]],
-    deal: &ReceiverDeal,
-    placement: &Placement,
-    tag: &[u8; 4],
-) -> Result<bool, Fail>
-    requires digests { digests.now ≡ map item_digest items.now }
-    requires placed { IsPlacementOf deal.now.stash deal.now.key (bins_for (length items.now)) items.now
-        placement.now }
+fn shows(alloc: Global, inputs: &Inputs<'_, '_>, tag: &[u8; 4]) -> Result<bool, Fail>
+    requires digests { inputs.now.digests.now ≡ map item_digest inputs.now.items.now }
+    requires placed { IsPlacementOf inputs.now.deal.now.stash inputs.now.deal.now.key
+        (bins_for (length inputs.now.items.now)) inputs.now.items.now inputs.now.placement.now }
 {
-    let core = ReceiverCore::new(alloc, items, digests, deal, placement)?;
-    let mut end = LoggedReceiver::new(alloc, core, Recorder::begin(alloc, placement)?)?;
+    let core = ReceiverCore::new(
+        alloc,
+        inputs.items,
+        inputs.digests,
+        inputs.deal,
+        inputs.placement,
+    )?;
+    let log = Recorder::begin(alloc, inputs.placement)?;
+    let mut end = LoggedReceiver::new(alloc, core, log)?;
     let mut world = QuietMem::new(alloc);
     world.set_incoming(&sender_bytes(alloc, tag)?, &[5, 40])?;
     world.open_link(Side::Connect, "here")?;
@@ -65,21 +65,17 @@ fn only_tag(own: &OwnTags) -> Option<Tag> {
 fn shows_own(rt: &impl Abort, alloc: Global, flip: u8) -> Result<bool, Fail> {
     let items = Items::read(alloc, b"ann\n")?;
     let (deal, _sender) = deal(alloc, &[0; 32], 0, 4, 1)?;
-    let bins = bins(items.len());
-    let hashed = hash_items(alloc, &items, deal.key(), bins)?;
-    let placement = place(alloc, &hashed.candidates, bins, deal.stash())
-        .ok()
-        .expect(rt, "a placement");
-    let made = prepare(alloc, &items, &hashed.digests, &deal, &placement)?;
+    let digests = items.digests(alloc)?;
+    let placement = placement(rt, alloc, &items, &digests, &deal)?;
+    let inputs = Inputs {
+        items: &items,
+        digests: &digests,
+        deal: &deal,
+        placement: &placement,
+    };
+    let made = prepare(alloc, &inputs)?;
     let [a, b, c, d, ..] = only_tag(&made.own).expect(rt, "a tag");
-    shows(
-        alloc,
-        &items,
-        &hashed.digests,
-        &deal,
-        &placement,
-        &[a, b, c, d ^ flip],
-    )
+    shows(alloc, &inputs, &[a, b, c, d ^ flip])
 }
 
 #[test]

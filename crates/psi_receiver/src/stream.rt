@@ -8,19 +8,13 @@ ghost use Rattle.psi_spec.specs.Matrices.{IsCleanMatrix};
 ghost use Rattle.psi_spec.specs.Streams.{column_frames, columns_stream};
 ghost use Rattle.psi_frames.specs.Expected.{seen};
 
-use crate::memory::HELLO;
+use crate::sizes::{COLUMN_HEAD, DONE_SIZE, HELLO_SIZE};
 use psi_base::NoMemory;
 use psi_bits::{Columns, Rows};
 use psi_deal::ReceiverDeal;
 use psi_frames::{Frame, Outbox, put};
 use psi_oprf::mask;
 use std::alloc::Global;
-
-// The bytes of the frame of a column, without those of the column.
-const COLUMN_HEAD: u32 = 7;
-
-// The bytes of the frame that ends a stream.
-const DONE: u32 = 5;
 
 // Adds a frame to a stream, by way of an outbox in which nothing is to be sent.
 fn add_frame(stream: &mut Vec<u8>, outbox: &mut Outbox, frame: &Frame<'_>) -> Result<(), NoMemory>
@@ -77,8 +71,8 @@ pub fn receiver_stream(
     let mut sent = Columns::zero(alloc, zeros.rows())?;
     mask(zeros, ones, words, &mut sent);
     let column = COLUMN_HEAD + sent.rows().div_ceil(8);
-    let mut outbox = Outbox::with_room(alloc, column.max(HELLO))?;
-    let mut stream = Vec::with_capacity(alloc, (HELLO + 512 * column + DONE) as usize)?;
+    let mut outbox = Outbox::with_room(alloc, column.max(HELLO_SIZE))?;
+    let mut stream = Vec::with_capacity(alloc, (HELLO_SIZE + 512 * column + DONE_SIZE) as usize)?;
     let hello = Frame::ReceiverHello {
         id: *deal.id(),
         session: deal.session(),

@@ -4,11 +4,11 @@ ghost use Rattle.psi_spec.specs.Formulas.{item_digest};
 ghost use Rattle.psi_spec.specs.Limits.{bins_for};
 ghost use Rattle.psi_spec.specs.Placement.{IsPlacementOf};
 
-use crate::tests::hash_items;
+use crate::inputs::Inputs;
+use crate::tests::placement;
 use crate::{receiver_stream, row_words};
-use psi_base::{NoMemory, bins, rows};
+use psi_base::{NoMemory, rows};
 use psi_bits::{Columns, Rows};
-use psi_cuckoo::{Placement, place};
 use psi_deal::{ReceiverDeal, deal};
 use psi_items::Items;
 use psi_oprf::change;
@@ -17,19 +17,19 @@ use std::process::Abort;
 use std::test::Fail;
 
 // The row words of items in a placement.
-fn words_in(
-    alloc: Global,
-    items: &Items,
-    digests: &[[u8; 32]],
-    deal: &ReceiverDeal,
-    placement: &Placement,
-) -> Result<Rows, NoMemory>
-    requires digests { digests.now ≡ map item_digest items.now }
-    requires placed { IsPlacementOf deal.now.stash deal.now.key (bins_for (length items.now)) items.now
-        placement.now }
+fn words_in(alloc: Global, inputs: &Inputs<'_, '_>) -> Result<Rows, NoMemory>
+    requires digests { inputs.now.digests.now ≡ map item_digest inputs.now.items.now }
+    requires placed { IsPlacementOf inputs.now.deal.now.stash inputs.now.deal.now.key
+        (bins_for (length inputs.now.items.now)) inputs.now.items.now inputs.now.placement.now }
 {
-    let mut words = Rows::with_rows(alloc, rows(items.len(), deal.stash()))?;
-    row_words(items, digests, deal.key(), placement, &mut words);
+    let mut words = Rows::with_rows(alloc, rows(inputs.items.len(), inputs.deal.stash()))?;
+    row_words(
+        inputs.items,
+        inputs.digests,
+        inputs.deal.key(),
+        inputs.placement,
+        &mut words,
+    );
     Ok(words)
 }
 
@@ -40,12 +40,15 @@ fn placed_words(
     items: &Items,
     deal: &ReceiverDeal,
 ) -> Result<Rows, Fail> {
-    let bins = bins(items.len());
-    let hashed = hash_items(alloc, items, deal.key(), bins)?;
-    let placement = place(alloc, &hashed.candidates, bins, deal.stash())
-        .ok()
-        .expect(rt, "a placement");
-    let words = words_in(alloc, items, &hashed.digests, deal, &placement)?;
+    let digests = items.digests(alloc)?;
+    let placement = placement(rt, alloc, items, &digests, deal)?;
+    let inputs = Inputs {
+        items,
+        digests: &digests,
+        deal,
+        placement: &placement,
+    };
+    let words = words_in(alloc, &inputs)?;
     Ok(words)
 }
 

@@ -1,17 +1,20 @@
 //! Worked rows.
-ghost use Rattle.std.specs.Prelude.{◌≡◌, ◌≤◌, ◌<◌, All, IfOk, map};
+ghost use Rattle.std.specs.Prelude.{◌≡◌, IfOk, length, map};
 ghost use Rattle.psi_spec.specs.Formulas.{item_digest};
-ghost use Rattle.psi_spec.specs.Placement.{candidates_of};
+ghost use Rattle.psi_spec.specs.Limits.{bins_for};
+ghost use Rattle.psi_spec.specs.Placement.{IsPlacementOf};
 
+use crate::inputs::Inputs;
 use crate::marking::mark;
 use crate::own::OwnTags;
 use crate::preparing::prepare;
-use psi_base::{NoMemory, bins};
-use psi_cuckoo::place;
-use psi_deal::deal;
-use psi_items::{Items, digest};
-use psi_oprf::{Tag, candidates};
+use psi_base::bins;
+use psi_cuckoo::{Placement, place};
+use psi_deal::{ReceiverDeal, deal};
+use psi_items::Items;
+use psi_oprf::{Tag, item_candidates};
 use std::alloc::Global;
+use std::process::Abort;
 use std::test::Fail;
 
 // Own tags of one byte each, padded.
@@ -36,34 +39,23 @@ fn no_own_tags_are_marked(rt: HostRuntime) {
     assert_eq!(rt; mark(&[], 0, &[7], 1, &mut []), 0);
 }
 
-// What is hashed of each item.
-#[derive(Drop)]
-pub(crate) struct Hashed {
-    pub(crate) digests: Vec<[u8; 32]>,
-    pub(crate) candidates: Vec<[u32; 3]>,
-}
-
-pub(crate) fn hash_items(
+// The placement of items with these digests.
+pub(crate) fn placement(
+    rt: &impl Abort,
     alloc: Global,
     items: &Items,
-    key: &[u8; 16],
-    bins: u32,
-) -> Result<Hashed, NoMemory>
-    requires { 1 ≤ bins }
-    ensures digests { IfOk result (λ made. made.digests.items ≡ map item_digest items.now) }
-    ensures candidates { IfOk result (λ made. made.candidates.items ≡ map (candidates_of key.now bins) items.now) }
-    ensures below { IfOk result (λ made. All (λ rows. All (λ row. row < bins) rows) made.candidates.items) }
+    digests: &[[u8; 32]],
+    deal: &ReceiverDeal,
+) -> Result<Placement, Fail>
+    requires { digests.now ≡ map item_digest items.now }
+    ensures { IfOk result (IsPlacementOf deal.now.stash deal.now.key (bins_for (length items.now)) items.now) }
 {
-    let mut made = Hashed {
-        digests: Vec::new(alloc),
-        candidates: Vec::new(alloc),
-    };
-    for place in 0..items.len() {
-        let hash = digest(items.get(place).unwrap());
-        made.digests.push(hash)?;
-        made.candidates.push(candidates(key, &hash, bins))?;
-    }
-    Ok(made)
+    let bins = bins(items.len());
+    let candidates = item_candidates(alloc, deal.key(), bins, digests)?;
+    let placement = place(alloc, &candidates, bins, deal.stash())
+        .ok()
+        .expect(rt, "a placement");
+    Ok(placement)
 }
 
 // How many own tags the lists have.
@@ -80,12 +72,15 @@ fn three_items_are_prepared(rt: HostRuntime) -> Result<(), Fail> {
     let alloc = rt.alloc();
     let items = Items::read(alloc, b"a\nb\nc\n")?;
     let (deal, _sender) = deal(alloc, &[0; 32], 0, 16, 4)?;
-    let bins = bins(items.len());
-    let hashed = hash_items(alloc, &items, deal.key(), bins)?;
-    let placement = place(alloc, &hashed.candidates, bins, deal.stash())
-        .ok()
-        .expect(&rt, "a placement");
-    let made = prepare(alloc, &items, &hashed.digests, &deal, &placement)?;
+    let digests = items.digests(alloc)?;
+    let placement = placement(&rt, alloc, &items, &digests, &deal)?;
+    let inputs = Inputs {
+        items: &items,
+        digests: &digests,
+        deal: &deal,
+        placement: &placement,
+    };
+    let made = prepare(alloc, &inputs)?;
     assert_eq!(rt; made.sent.rows(), 8);
     assert_eq!(rt; made.own.lists.len(), 7);
     assert_eq!(rt; count_tags(&made.own), 3);

@@ -1,17 +1,12 @@
 //! A whole session of three items on either side.
-ghost use Rattle.std.specs.Prelude.{◌≡◌, ◌≤◌, ◌<◌, All, IfOk, map};
-ghost use Rattle.psi_spec.specs.Formulas.{item_digest};
-ghost use Rattle.psi_spec.specs.Placement.{candidates_of};
-
 use crate::{Transcript, exchange};
 use psi_base::{NoMemory, bins};
 use psi_cuckoo::place;
 use psi_deal::deal;
-use psi_items::{Items, digest};
-use psi_oprf::candidates;
+use psi_items::Items;
+use psi_oprf::item_candidates;
 use psi_receiver::ReceiverCore;
 use psi_sender::SenderCore;
-use std::alloc::Global;
 use std::test::Fail;
 
 // The receiver's hello, of three items, for the zero seed's deal of session 0.
@@ -37,31 +32,6 @@ impl Transcript for Passed {
     }
 }
 
-// What is hashed of each item.
-#[derive(Drop)]
-struct Hashed {
-    digests: Vec<[u8; 32]>,
-    candidates: Vec<[u32; 3]>,
-}
-
-fn hash_items(alloc: Global, items: &Items, key: &[u8; 16], bins: u32) -> Result<Hashed, NoMemory>
-    requires { 1 ≤ bins }
-    ensures digests { IfOk result (λ made. made.digests.items ≡ map item_digest items.now) }
-    ensures candidates { IfOk result (λ made. made.candidates.items ≡ map (candidates_of key.now bins) items.now) }
-    ensures below { IfOk result (λ made. All (λ rows. All (λ row. row < bins) rows) made.candidates.items) }
-{
-    let mut made = Hashed {
-        digests: Vec::new(alloc),
-        candidates: Vec::new(alloc),
-    };
-    for place in 0..items.len() {
-        let hash = digest(items.get(place).unwrap());
-        made.digests.push(hash)?;
-        made.candidates.push(candidates(key, &hash, bins))?;
-    }
-    Ok(made)
-}
-
 #[test]
 fn common_items_are_shown(rt: HostRuntime) -> Result<(), Fail> {
     let alloc = rt.alloc();
@@ -69,11 +39,12 @@ fn common_items_are_shown(rt: HostRuntime) -> Result<(), Fail> {
     let peer_items = Items::read(alloc, b"b\nc\nd\n")?;
     let (own_deal, peer_deal) = deal(alloc, &[0; 32], 0, 16, 4)?;
     let bins = bins(items.len());
-    let hashed = hash_items(alloc, &items, own_deal.key(), bins)?;
-    let placement = place(alloc, &hashed.candidates, bins, own_deal.stash())
+    let digests = items.digests(alloc)?;
+    let candidates = item_candidates(alloc, own_deal.key(), bins, &digests)?;
+    let placement = place(alloc, &candidates, bins, own_deal.stash())
         .ok()
         .expect(&rt, "a placement");
-    let mut receiver = ReceiverCore::new(alloc, &items, &hashed.digests, &own_deal, &placement)?;
+    let mut receiver = ReceiverCore::new(alloc, &items, &digests, &own_deal, &placement)?;
     let mut sender = SenderCore::new(alloc, &peer_items, &peer_deal);
     let mut passed = Passed {
         bytes: Vec::new(alloc),

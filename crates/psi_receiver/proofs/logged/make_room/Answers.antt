@@ -19,7 +19,8 @@ returns-in_ok-reserve-clause-room c =
     let f : Frame = seen c.args.frame.now in
     let spare = c.reserve.new.self.spare in
     let exact = ap (λ (d : ReceiverDeal). answer_size (column_bytes c.rows.result) d.tag_length c.in-SenderHello.count (3 + d.stash)) c.deal.ensures in
-    let room = subst (λ n. 34 + n ≤ spare) (c.most_after_hello-most.ensures.exact ∙ exact) c.in_ok-reserve.ensures.room in
+    let hello = subst (λ head. head + c.most_after_hello-most.result ≤ spare) c.from.ensures c.in_ok-reserve.ensures.room in
+    let room = subst (λ n. 34 + n ≤ spare) (c.most_after_hello-most.ensures.exact ∙ exact) hello in
     hello_room c.args.core.now f _ _ c.in-SenderHello.count (column_bytes c.rows.result) spare c.requires.due (ap seen c.in-SenderHello.is) c.rows.ensures room
 
 pub returns-in_default : goal.returns-in_default

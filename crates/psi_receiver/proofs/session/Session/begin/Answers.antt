@@ -8,9 +8,9 @@ use Rattle.psi_receiver.proofs.session.Session.begin.Goals as goal
 
 pub returns-clause-new : goal.returns-clause-new
 returns-clause-new c =
-    let deal = c.args.deal.now in
-    let items : List (List ℕ) = c.args.items.now in
-    let slots = c.args.placement.now in
+    let deal = c.args.inputs.now.deal.now in
+    let items : List (List ℕ) = c.args.inputs.now.items.now in
+    let slots = c.args.inputs.now.placement.now in
     let many = as_many_slots deal.stash (bins_for (length items)) deal.key items slots c.requires.placed in
     let count = c.len-count.ensures.len ∙ sym (length-placed_of items slots (sym many)) in
     record {
