@@ -13,13 +13,14 @@ use Rattle.psi_spec.proofs.StreamSizes.{length-column_frame}
 use Rattle.psi_frames.specs.declared.expect.Expect.{Expect}
 use Rattle.psi_frames.specs.declared.expect.Expect.TheVariants as expect
 use Rattle.psi_frames.specs.Boxes.{OutboxState}
+use Rattle.psi_frames.specs.Column.{columns_size}
 use Rattle.psi_frames.specs.Expected.{IsValid, frame_at, frame_length}
 use Rattle.psi_frames.specs.Script.{EndState, IsWithin, MayCome, Script, after_sending, after_taking, awaits, due_after, due_frame, goes_on, over, script_of, sends, wire_for}
 use Rattle.psi_frames.specs.ScriptLaws.{AreDue}
 use Rattle.psi_frames.proofs.FrameAt.{frame_at_layout}
 use Rattle.psi_frames.proofs.Scripts.{wire-goes_on, within-goes_on}
 use Rattle.psi_frames.proofs.Standing.{waits}
-use Rattle.psi_receiver.specs.Logging.{HasRoomFor, IsLogging, IsMost, answer_size, lists_size}
+use Rattle.psi_receiver.specs.Logging.{HasRoomFor, IsLogging, IsMost, answer_size, rest_size}
 use Rattle.psi_receiver.specs.Running.{ReceiverState, Stage, answers, awaits_from, ends, greets, is_new_at, is_over, merges, next_of, state_of}
 use Rattle.psi_receiver.specs.Script.{answers_hello, awaits_blocks, awaits_lists, count_in, floor_after, no_floor, tags_at}
 
@@ -121,19 +122,19 @@ most_blocks width count list block (suc left) floor rest most h (f ∷ frames) d
     let same : tags_at count block * width ≡ width * tags_at count block = grind arith in
     omega (arith, more, long, same, tags_step width count block, length-append (layout f) (wire_for after frames))
 
-most_lists : (width count list left : ℕ) → IsMost (awaits_lists width count list left) (lists_size width count left)
+most_lists : (width count list left : ℕ) → IsMost (awaits_lists width count list left) (rest_size width count left)
 most_lists width count list zero [] due = omega arith
 most_lists width count list zero (f ∷ frames) due = absurd due
 most_lists width count list (suc left) frames due =
-    let all = most_blocks width count list 0 (blocks_for count) no_floor (awaits_lists width count (list + 1) left) (lists_size width count left) (most_lists width count (list + 1) left) frames due in
+    let all = most_blocks width count list 0 (blocks_for count) no_floor (awaits_lists width count (list + 1) left) (rest_size width count left) (most_lists width count (list + 1) left) frames due in
     let rest : count - 1024 * 0 ≡ count = omega arith in
     let tags : width * (count - 1024 * 0) ≡ width * count = ap (λ (n : ℕ). width * n) rest in
     omega (arith, all, tags, suc-mul left (10 * blocks_for count + width * count))
 
 -- what goes over the wire after the sender's hello
-pub most_answer : (deal : ReceiverDeal) (placed : List Placed) (count column : ℕ) → length (column_frames 0 (dealt_masked deal placed)) ≡ 512 * (7 + column)
-    → IsMost (answers_hello deal placed count) (answer_size column deal.tag_length count (3 + deal.stash))
-most_answer deal placed count column long frames due =
+pub most_answer : (deal : ReceiverDeal) (placed : List Placed) (count rows : ℕ) → length (column_frames 0 (dealt_masked deal placed)) ≡ columns_size rows
+    → IsMost (answers_hello deal placed count) (answer_size rows deal.tag_length count (3 + deal.stash))
+most_answer deal placed count rows long frames due =
     let columns : List ℕ = column_frames 0 (dealt_masked deal placed) in
     let lists : Script = awaits_lists deal.tag_length count 0 (3 + deal.stash) in
     let all = most_lists deal.tag_length count 0 (3 + deal.stash) frames due in
@@ -199,17 +200,17 @@ hello_is_first s f id session count may hello =
     ap is_new_at (first_hello s f id session count due.0 due.1 due.2 hello).0
 
 -- a record with room for a hello and for what is sent and taken after it
-pub hello_room : (s : ReceiverState) (f : Frame) (id : List ℕ) (session count column spare : ℕ) → MayCome (due_frame (state_of s)) f → f ≡ sender_hello id session count
-    → length (column_frames 0 (dealt_masked s.deal s.placed)) ≡ 512 * (7 + column) → 34 + answer_size column s.deal.tag_length count (3 + s.deal.stash) ≤ spare → HasRoomFor (state_of s) f spare
-hello_room s f id session count column spare may hello columns room =
+pub hello_room : (s : ReceiverState) (f : Frame) (id : List ℕ) (session count rows spare : ℕ) → MayCome (due_frame (state_of s)) f → f ≡ sender_hello id session count
+    → length (column_frames 0 (dealt_masked s.deal s.placed)) ≡ columns_size rows → 34 + answer_size rows s.deal.tag_length count (3 + s.deal.stash) ≤ spare → HasRoomFor (state_of s) f spare
+hello_room s f id session count rows spare may hello columns room =
     let due = due_is (due_frame (state_of s)) f may in
     let first = first_hello s f id session count due.0 due.1 due.2 hello in
     let said : count_in f ≡ count = ap count_in hello in
     let long = first.1 in
     let most : IsMost (answers_hello s.deal s.placed (count_in f)) (spare - length (layout f)) =
-    most_more (answers_hello s.deal s.placed (count_in f)) (answer_size column s.deal.tag_length (count_in f) (3 + s.deal.stash)) (spare - length (layout f))
-    (subst (λ (n : ℕ). answer_size column s.deal.tag_length n (3 + s.deal.stash) ≤ spare - length (layout f)) (sym said) (omega (arith, room, long)))
-    (most_answer s.deal s.placed (count_in f) column columns) in
+    most_more (answers_hello s.deal s.placed (count_in f)) (answer_size rows s.deal.tag_length (count_in f) (3 + s.deal.stash)) (spare - length (layout f))
+    (subst (λ (n : ℕ). answer_size rows s.deal.tag_length n (3 + s.deal.stash) ≤ spare - length (layout f)) (sym said) (omega (arith, room, long)))
+    (most_answer s.deal s.placed (count_in f) rows columns) in
     record {
       frame = omega (arith, room, long);
       rest =

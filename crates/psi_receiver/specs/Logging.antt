@@ -1,9 +1,10 @@
 -- The receiver's end whose session is written down, as contracts see it, and the room that its record has.
-use Rattle.std.specs.Prelude.{◌≡◌, ◌+◌, ◌-◌, ◌*◌, ◌≤◌, ℕ, false, List, [], length}
+use Rattle.std.specs.Prelude.{◌≡◌, ◌+◌, ◌-◌, ◌≤◌, ℕ, false, List, [], length}
 use Rattle.psi_spec.specs.Frames.{Frame, layout}
 use Rattle.psi_spec.specs.Limits.{inbox_room}
-use Rattle.psi_spec.specs.Streams.{blocks_for}
 use Rattle.psi_frames.specs.Boxes.{OutboxState}
+use Rattle.psi_frames.specs.Column.{columns_size}
+use Rattle.psi_frames.specs.Tags.{lists_size}
 use Rattle.psi_frames.specs.Script.{EndState, IsWithin, Script, after_taking, script_of, wire_for}
 use Rattle.psi_frames.specs.ScriptLaws.{AreDue}
 use Rattle.psi_receiver.specs.Running.{KeptSince, ReceiverState}
@@ -18,12 +19,12 @@ abbrev pub IsMost : Script → ℕ → Type 0
 IsMost script most = (frames : List Frame) → AreDue script frames → length (wire_for script frames) ≤ most
 
 -- the bytes of lists of so many tags each, and of the end
-abbrev pub lists_size : ℕ → ℕ → ℕ → ℕ
-lists_size width count lists = lists * (10 * blocks_for count + width * count) + 5
+abbrev pub rest_size : ℕ → ℕ → ℕ → ℕ
+rest_size width count lists = lists_size lists width count + 5
 
--- the bytes of 512 columns, of lists and of the end
+-- the bytes of 512 columns of so many rows, of lists and of the end
 abbrev pub answer_size : ℕ → ℕ → ℕ → ℕ → ℕ
-answer_size column width count lists = 512 * (7 + column) + lists_size width count lists
+answer_size rows width count lists = columns_size rows + rest_size width count lists
 
 -- so many more bytes may be written down: the frame that an end takes, and all that goes over the wire after it
 pub record HasRoomFor (state : EndState) (f : Frame) (spare : ℕ) : Type 0 where

@@ -17,7 +17,6 @@ mod run;
 mod session;
 #[cfg(test)]
 mod session_tests;
-mod sizes;
 mod steps;
 mod stream;
 #[cfg(test)]

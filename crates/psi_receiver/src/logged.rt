@@ -1,6 +1,5 @@
 // The receiver's end whose session is written down.
 ghost use Rattle.std.specs.Prelude.{◌≡◌, ◌+◌, ◌^◌, ◌<◌, ◌≤◌, ◌++◌, [], false, length, IfOk, IsTrue, OnErr, OnOk};
-ghost use Rattle.psi_spec.specs.Columns.{column_bytes};
 ghost use Rattle.psi_spec.specs.Deals.{IsReceiverDeal};
 ghost use Rattle.psi_spec.specs.Frames.{layout};
 ghost use Rattle.psi_frames.specs.Expected.{seen};
@@ -9,10 +8,11 @@ ghost use Rattle.psi_receiver.specs.Logging.{HasRoomFor, IsMost, answer_size};
 ghost use Rattle.psi_receiver.specs.Running.{state_of};
 
 use crate::receiver::ReceiverCore;
-use crate::sizes::{BLOCK_TAGS, COLUMN_HEAD, DONE_SIZE, HELLO_SIZE, TAGS_HEAD};
 use psi_base::{INBOX_ROOM, NoMemory};
 use psi_deal::ReceiverDeal;
-use psi_frames::{End, Expect, Frame, Outbox, Turn, put};
+use psi_frames::{
+    DONE_SIZE, End, Expect, Frame, HELLO_SIZE, Outbox, Turn, columns_size, lists_size, put,
+};
 use psi_log::Recorder;
 use std::alloc::Global;
 use std::marker::Model;
@@ -78,13 +78,11 @@ impl<'a> LoggedReceiver<'a> {
 // How many bytes go over the wire at most after the hello of a sender of `count` items, where columns have so many
 // rows.
 fn most_after_hello(deal: &ReceiverDeal, rows: u32, count: u32) -> u64
-    ensures exact { result ≡ answer_size (column_bytes rows) deal.now.tag_length count (3 + deal.now.stash) }
+    ensures exact { result ≡ answer_size rows deal.now.tag_length count (3 + deal.now.stash) }
     ensures small { result + 34 < 2 ^ 64 }
 {
-    let columns = 512 * (u64::from(COLUMN_HEAD) + u64::from(rows.div_ceil(8)));
-    let headers = u64::from(TAGS_HEAD) * u64::from(count.div_ceil(BLOCK_TAGS));
-    let tags = u64::from(deal.width()) * u64::from(count);
-    columns + (u64::from(3 + deal.stash()) * (headers + tags) + u64::from(DONE_SIZE))
+    let lists = lists_size(3 + deal.stash(), deal.width(), count);
+    columns_size(rows) + (lists + u64::from(DONE_SIZE))
 }
 
 // Makes room in the record for a frame that is taken, and for all that goes over the wire after it. It is refused only

@@ -9,10 +9,9 @@ ghost use Rattle.psi_receiver.specs.Running.{IsMemory};
 use crate::inputs::Inputs;
 use crate::own::OwnTags;
 use crate::preparing::prepare;
-use crate::sizes::{COLUMN_HEAD, HELLO_SIZE};
 use psi_base::NoMemory;
 use psi_bits::Columns;
-use psi_frames::Outbox;
+use psi_frames::{COLUMN_HEAD, HELLO_SIZE, Outbox};
 use std::alloc::Global;
 
 /// All memory of a session, taken at once.

@@ -5,7 +5,7 @@ ghost use Rattle.psi_spec.specs.Streams.{blocks_for};
 ghost use Rattle.psi_receiver.specs.Phases.{first_of, next_phase};
 ghost use Rattle.psi_receiver.specs.Script.{tags_at};
 
-use crate::sizes::BLOCK_TAGS;
+use psi_frames::BLOCK_TAGS;
 use psi_oprf::Tag;
 
 /// A block of a list that is awaited.

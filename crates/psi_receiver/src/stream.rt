@@ -8,11 +8,10 @@ ghost use Rattle.psi_spec.specs.Matrices.{IsCleanMatrix};
 ghost use Rattle.psi_spec.specs.Streams.{column_frames, columns_stream};
 ghost use Rattle.psi_frames.specs.Expected.{seen};
 
-use crate::sizes::{COLUMN_HEAD, DONE_SIZE, HELLO_SIZE};
 use psi_base::NoMemory;
 use psi_bits::{Columns, Rows};
 use psi_deal::ReceiverDeal;
-use psi_frames::{Frame, Outbox, put};
+use psi_frames::{COLUMN_HEAD, DONE_SIZE, Frame, HELLO_SIZE, Outbox, put};
 use psi_oprf::mask;
 use std::alloc::Global;
 

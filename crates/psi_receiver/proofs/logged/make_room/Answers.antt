@@ -1,5 +1,4 @@
 use Rattle.std.proofs.Common.{◌+◌, ◌≤◌, ap, rules, subst, ◌∙◌}
-use Rattle.psi_spec.specs.Columns.{column_bytes}
 use Rattle.psi_spec.specs.Deals.{ReceiverDeal}
 use Rattle.psi_spec.specs.Frames.{Frame}
 use Rattle.psi_frames.specs.Expected.{seen}
@@ -18,10 +17,10 @@ pub returns-in_ok-reserve-clause-room : goal.returns-in_ok-reserve-clause-room
 returns-in_ok-reserve-clause-room c =
     let f : Frame = seen c.args.frame.now in
     let spare = c.reserve.new.self.spare in
-    let exact = ap (λ (d : ReceiverDeal). answer_size (column_bytes c.rows.result) d.tag_length c.in-SenderHello.count (3 + d.stash)) c.deal.ensures in
+    let exact = ap (λ (d : ReceiverDeal). answer_size c.rows.result d.tag_length c.in-SenderHello.count (3 + d.stash)) c.deal.ensures in
     let hello = subst (λ head. head + c.most_after_hello-most.result ≤ spare) c.from.ensures c.in_ok-reserve.ensures.room in
     let room = subst (λ n. 34 + n ≤ spare) (c.most_after_hello-most.ensures.exact ∙ exact) hello in
-    hello_room c.args.core.now f _ _ c.in-SenderHello.count (column_bytes c.rows.result) spare c.requires.due (ap seen c.in-SenderHello.is) c.rows.ensures room
+    hello_room c.args.core.now f _ _ c.in-SenderHello.count c.rows.result spare c.requires.due (ap seen c.in-SenderHello.is) c.rows.ensures room
 
 pub returns-in_default : goal.returns-in_default
 returns-in_default c =
