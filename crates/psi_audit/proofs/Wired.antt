@@ -25,7 +25,7 @@ abbrev columns_list : ℕ → List (List ℕ) → List Frame
 columns_list c [] = []
 columns_list c (u ∷ us) = column_frame c u ∷ columns_list (c + 1) us
 
-columns_are : (c : ℕ) (us : List (List ℕ)) → column_frames c us ≡ flat_map layout (columns_list c us)
+columns_are : (c : ℕ) (us : List (List ℕ)) → layouts (column_frames c us) ≡ flat_map layout (columns_list c us)
 columns_are c [] = refl
 columns_are c (u ∷ us) = ap (λ (rest : List ℕ). layout (column_frame c u) ++ rest) (columns_are (c + 1) us)
 
@@ -36,15 +36,15 @@ layouts-append : (xs ys : List Frame) → flat_map layout (xs ++ ys) ≡ flat_ma
 layouts-append [] ys = refl
 layouts-append (x ∷ xs) ys = ap (λ (rest : List ℕ). layout x ++ rest) (layouts-append xs ys) ∙ sym (append_assoc (layout x) (flat_map layout xs) (flat_map layout ys))
 
-blocks_are : (list : ℕ) (tags : List (List ℕ)) (bs : List ℕ) → flat_map (block_frame list tags) bs ≡ flat_map layout (map (block list tags) bs)
+blocks_are : (list : ℕ) (tags : List (List ℕ)) (bs : List ℕ) → layouts (map (block_frame list tags) bs) ≡ flat_map layout (map (block list tags) bs)
 blocks_are list tags [] = refl
-blocks_are list tags (b ∷ bs) = ap (λ (rest : List ℕ). block_frame list tags b ++ rest) (blocks_are list tags bs)
+blocks_are list tags (b ∷ bs) = ap (λ (rest : List ℕ). layout (block_frame list tags b) ++ rest) (blocks_are list tags bs)
 
 abbrev lists_list : ℕ → List (List (List ℕ)) → List Frame
 lists_list list [] = []
 lists_list list (tags ∷ lists) = map (block list tags) (range_with_len 0 (blocks_for (length tags))) ++ lists_list (list + 1) lists
 
-lists_are : (list : ℕ) (lists : List (List (List ℕ))) → lists_frames list lists ≡ flat_map layout (lists_list list lists)
+lists_are : (list : ℕ) (lists : List (List (List ℕ))) → layouts (lists_frames list lists) ≡ flat_map layout (lists_list list lists)
 unfolding list_frames
 lists_are list [] = refl
 lists_are list (tags ∷ lists) =
@@ -113,9 +113,9 @@ session_is_wire receiver sender placed ys own_id peer_id seeds stash tag_length 
             (lists_precede sender.tag_length (length ys) 0 lists tag_length (recursion_from_All (IsTagList sender.tag_length (length ys)) lists (tag_lists_are sender.stash (sender_side sender (length placed) columns) ys tag_length))),
       ),
     ) in
-    let joined : flat_map layout frames ≡ ((h ++ k) ++ column_frames 0 columns) ++ lists_frames 0 lists =
+    let joined : flat_map layout frames ≡ ((h ++ k) ++ layouts (column_frames 0 columns)) ++ layouts (lists_frames 0 lists) =
     ap (λ (rest : List ℕ). h ++ (k ++ rest)) (layouts-append cs ls ∙ ap₂ (λ (xs zs : List ℕ). xs ++ zs) (sym (columns_are 0 columns)) (sym (lists_are 0 lists)))
-    ∙ sym (append_assoc (h ++ k) (column_frames 0 columns) (lists_frames 0 lists) ∙ append_assoc h k (column_frames 0 columns ++ lists_frames 0 lists)) in
+    ∙ sym (append_assoc (h ++ k) (layouts (column_frames 0 columns)) (layouts (lists_frames 0 lists)) ∙ append_assoc h k (layouts (column_frames 0 columns) ++ layouts (lists_frames 0 lists))) in
     subst IsWire
     (ap (λ (all : List ℕ). all ++ layout done_frame) joined
     ∙ sym (sessions_are_woven receiver.id sender.id receiver.session sender.session (length placed) (length ys) columns lists own_id peer_id))

@@ -49,7 +49,7 @@ length-frame_head list block joined = omega arith
 
 -- the tags of blocks from block a on are read again, whatever follows them
 blocks_are_read : (g list a n : ℕ) (tags : List (List ℕ)) (rest : List ℕ) → AreOfLength g tags → length tags ≤ 1024 * (a + n)
-    → tags_in g n (length tags - 1024 * a) (flat_map (block_frame list tags) (range_with_len a n) ++ rest) ≡ drop (1024 * a) tags
+    → tags_in g n (length tags - 1024 * a) (layouts (map (block_frame list tags) (range_with_len a n)) ++ rest) ≡ drop (1024 * a) tags
 unfolding tags_in
 blocks_are_read g list a zero tags rest all few = sym (drop_all (1024 * a) tags (omega arith))
 blocks_are_read g list a (suc n) tags rest all few =
@@ -57,7 +57,7 @@ blocks_are_read g list a (suc n) tags rest all few =
     let block : List (List ℕ) = block_of tags a in
     let joined : List ℕ = concat block in
     let head : List ℕ = frame_head list a joined in
-    let later : List ℕ = flat_map (block_frame list tags) (range_with_len (a + 1) n) in
+    let later : List ℕ = layouts (map (block_frame list tags) (range_with_len (a + 1) n)) in
     let are : AreOfLength g block = AreOfLength-take g 1024 from (AreOfLength-drop g (1024 * a) tags all) in
     let many : min 1024 (length tags - 1024 * a) ≡ length block = omega (arith, length-take 1024 from, length-drop (1024 * a) tags) in
     let size : length joined ≡ g * length block = length-joined g block are ∙ mul_comm (length block) g in
@@ -81,27 +81,27 @@ blocks_are_read g list a (suc n) tags rest all few =
     ∙ take-append-drop 1024 from
 
 -- so is a list
-list_is_read : (g m list : ℕ) (tags : List (List ℕ)) (rest : List ℕ) → IsTagList g m tags → tags_in g (blocks_for m) m (list_frames list tags ++ rest) ≡ tags
+list_is_read : (g m list : ℕ) (tags : List (List ℕ)) (rest : List ℕ) → IsTagList g m tags → tags_in g (blocks_for m) m (layouts (list_frames list tags) ++ rest) ≡ tags
 list_is_read g m list tags rest is =
     let blocks : ℕ = blocks_for (length tags) in
-    let frames : List ℕ = flat_map (block_frame list tags) (range_with_len 0 blocks) in
+    let frames : List ℕ = layouts (map (block_frame list tags) (range_with_len 0 blocks)) in
     let all : length tags ≡ length tags - 1024 * 0 = omega arith in
     let start : 1024 * 0 ≡ 0 = omega arith in
-    subst (λ (k : ℕ). tags_in g (blocks_for k) k (list_frames list tags ++ rest) ≡ tags) is.size
+    subst (λ (k : ℕ). tags_in g (blocks_for k) k (layouts (list_frames list tags) ++ rest) ≡ tags) is.size
     (ap (λ (xs : List ℕ). tags_in g blocks (length tags) (xs ++ rest)) (list_frames_are list tags)
     ∙ (ap (λ (k : ℕ). tags_in g blocks k (frames ++ rest)) all
     ∙ (blocks_are_read g list 0 blocks tags rest (recursion_from_All (λ tag. length tag ≡ g) tags is.lengths) (omega arith)
     ∙ ap (λ (k : ℕ). drop k tags) start)))
 
 -- so are all lists
-lists_are_read : (g m list : ℕ) (lists : List (List (List ℕ))) → AllByRecursion (IsTagList g m) lists → lists_in g m (length lists) (lists_frames list lists) ≡ lists
+lists_are_read : (g m list : ℕ) (lists : List (List (List ℕ))) → AllByRecursion (IsTagList g m) lists → lists_in g m (length lists) (layouts (lists_frames list lists)) ≡ lists
 unfolding lists_in
 lists_are_read g m list [] are = refl
 lists_are_read g m list (tags ∷ lists) are =
-    let later : List ℕ = lists_frames (list + 1) lists in
+    let later : List ℕ = layouts (lists_frames (list + 1) lists) in
     let size : ℕ = 10 * blocks_for m + g * m in
     ap₂ (λ (xs : List (List ℕ)) (ls : List (List (List ℕ))). xs ∷ ls) (list_is_read g m list tags later are.0)
-    (ap (lists_in g m (length lists)) (drop_at (list_frames list tags) later size (length-list_frames g m list tags are.0))
+    (ap (lists_in g m (length lists)) (drop_at (layouts (list_frames list tags)) later size (length-list_frames g m list tags are.0))
     ∙ lists_are_read g m (list + 1) lists are.1)
 
 -- the hello says the count
@@ -123,10 +123,10 @@ pub lists_of_stream : (deal : ReceiverDeal) (count : ℕ) (lists : List (List (L
 unfolding lists_of lists_stream
 lists_of_stream deal count lists bytes is stream =
     let g : ℕ = deal.tag_length in
-    let said = count_is_read deal.id deal.session count (lists_frames 0 lists) is.id (let few = stream.few in omega arith) in
+    let said = count_is_read deal.id deal.session count (layouts (lists_frames 0 lists)) is.id (let few = stream.few in omega arith) in
     let hello : List ℕ = layout (sender_hello deal.id deal.session count) in
     ap (λ (xs : List ℕ). lists_in g (from_be_bytes w32 (take 4 (drop 30 xs))) (3 + deal.stash) (drop 34 xs)) stream.is
     ∙ ap₂ (λ (k : ℕ) (xs : List ℕ). lists_in g k (3 + deal.stash) xs) said
-    (drop_at hello (lists_frames 0 lists) 34 (length-sender_hello deal.id deal.session count is.id))
-    ∙ ap (λ (k : ℕ). lists_in g count k (lists_frames 0 lists)) (sym stream.size)
+    (drop_at hello (layouts (lists_frames 0 lists)) 34 (length-sender_hello deal.id deal.session count is.id))
+    ∙ ap (λ (k : ℕ). lists_in g count k (layouts (lists_frames 0 lists))) (sym stream.size)
     ∙ lists_are_read g count 0 lists (recursion_from_All (IsTagList g count) lists stream.each)

@@ -113,20 +113,20 @@ lists_list list [] = []
 lists_list list (tags ∷ lists) = block_list list 0 (blocks_for (length tags)) tags ++ lists_list (list + 1) lists
 
 block_list-bytes : (list block left : ℕ) (tags : List (List ℕ))
-    → flat_map layout (block_list list block left (drop (1024 * block) tags)) ≡ flat_map (block_frame list tags) (range_with_len block left)
+    → flat_map layout (block_list list block left (drop (1024 * block) tags)) ≡ layouts (map (block_frame list tags) (range_with_len block left))
 block_list-bytes list block zero tags = refl
 block_list-bytes list block (suc left) tags =
     let next : 1024 * block + 1024 ≡ 1024 * (block + 1) = omega arith in
-    ap (λ (ts : List (List ℕ)). block_frame list tags block ++ flat_map layout (block_list list (block + 1) left ts))
+    ap (λ (ts : List (List ℕ)). layout (block_frame list tags block) ++ flat_map layout (block_list list (block + 1) left ts))
     (drop-drop 1024 (1024 * block) tags ∙ ap (λ (k : ℕ). drop k tags) next)
-    ∙ ap (λ (xs : List ℕ). block_frame list tags block ++ xs) (block_list-bytes list (block + 1) left tags)
+    ∙ ap (λ (xs : List ℕ). layout (block_frame list tags block) ++ xs) (block_list-bytes list (block + 1) left tags)
 
 pub block_list-frames : (list : ℕ) (tags : List (List ℕ))
-    → flat_map layout (block_list list 0 (blocks_for (length tags)) tags) ≡ list_frames list tags
+    → flat_map layout (block_list list 0 (blocks_for (length tags)) tags) ≡ layouts (list_frames list tags)
 block_list-frames list tags =
     block_list-bytes list 0 (blocks_for (length tags)) tags ∙ sym (list_frames_are list tags)
 
-pub lists_list-bytes : (list : ℕ) (lists : List (List (List ℕ))) → flat_map layout (lists_list list lists) ≡ lists_frames list lists
+pub lists_list-bytes : (list : ℕ) (lists : List (List (List ℕ))) → flat_map layout (lists_list list lists) ≡ layouts (lists_frames list lists)
 lists_list-bytes list [] = refl
 lists_list-bytes list (tags ∷ lists) =
     flat_map-append layout (block_list list 0 (blocks_for (length tags)) tags) (lists_list (list + 1) lists)

@@ -61,7 +61,7 @@ receiver_owes : (deal : ReceiverDeal) (placed : List Placed) (bytes : List ℕ) 
 unfolding receiver_dialogue receiver_script receiver_stream columns_stream
 receiver_owes deal placed bytes =
     let hello : List ℕ = layout (receiver_hello deal.id deal.session (length placed)) in
-    let columns : List ℕ = column_frames 0 (dealt_masked deal placed) in
+    let columns : List ℕ = layouts (column_frames 0 (dealt_masked deal placed)) in
     let e : Expect = expect.SenderHello deal.id deal.session in
     let rest : List ℕ = drop (frame_length e) bytes in
     let answers : Frame → List ℕ = λ f. owed (answers_hello deal placed (count_in f)) rest in

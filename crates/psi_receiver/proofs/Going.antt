@@ -82,7 +82,7 @@ some_end e = omega (arith, ap length e)
 -- columns are owed before the last is put
 pub some_columns : (next count : ℕ) (columns : List (List ℕ)) → next < length columns → rest_in columns (phase.Columns next count) ≡ [] → ⊥
 some_columns next count columns l e =
-    omega (arith, ap length (ap (λ (cs : List (List ℕ)). column_frames next cs ++ end_for count) (sym (drop_more columns next [] l)) ∙ e))
+    omega (arith, ap length (ap (λ (cs : List (List ℕ)). layouts (column_frames next cs) ++ end_for count) (sym (drop_more columns next [] l)) ∙ e))
 
 module _ (deal : ReceiverDeal) (placed : List Placed) where
   -- an end with these bytes in its outbox, those owed after them, and this stage
@@ -96,8 +96,8 @@ module _ (deal : ReceiverDeal) (placed : List Placed) where
       ≡ layout (column_frame next (get_or columns next [])) ++ rest_in columns (phase_after_column next count)
   one_column next count columns full l =
       let frame : List ℕ = layout (column_frame next (get_or columns next [])) in
-      ap (λ (cs : List (List ℕ)). column_frames next cs ++ end_for count) (drop_more columns next [] (omega (arith, full, l)))
-      ∙ append_assoc frame (column_frames (next + 1) (drop (next + 1) columns)) (end_for count)
+      ap (λ (cs : List (List ℕ)). layouts (column_frames next cs) ++ end_for count) (drop_more columns next [] (omega (arith, full, l)))
+      ∙ append_assoc frame (layouts (column_frames (next + 1) (drop (next + 1) columns))) (end_for count)
       ∙ ap (λ (rest : List ℕ). frame ++ rest) (by_index (nat_lt next 511) refl)
     where
       by_count : (b : Bool) → cond b [] (layout done_frame) ≡ rest_in columns (cond b (phase.Tags (first_of 0 count)) phase.Done)
@@ -105,12 +105,12 @@ module _ (deal : ReceiverDeal) (placed : List Placed) where
       by_count false = refl
 
       by_index : (b : Bool) → nat_lt next 511 ≡ b
-          → column_frames (next + 1) (drop (next + 1) columns) ++ end_for count
+          → layouts (column_frames (next + 1) (drop (next + 1) columns)) ++ end_for count
           ≡ rest_in columns (cond b (phase.Columns (next + 1) count) (cond (nat_lt 0 count) (phase.Tags (first_of 0 count)) phase.Done))
       by_index true e = refl
       by_index false e =
           let high = ltb-false next 511 e in
-          ap (λ (cs : List (List ℕ)). column_frames (next + 1) cs ++ end_for count) (drop_all (next + 1) columns (omega (arith, full, high)))
+          ap (λ (cs : List (List ℕ)). layouts (column_frames (next + 1) cs) ++ end_for count) (drop_all (next + 1) columns (omega (arith, full, high)))
           ∙ by_count (nat_lt 0 count)
 
   -- an end that puts the frame of a column owes what it owed
@@ -201,7 +201,7 @@ module _ (deal : ReceiverDeal) (placed : List Placed) where
   after_hello f columns is =
       let n : ℕ = count_in f in
       ap (λ (cs : List (List ℕ)). state_with [] (rest_in cs (phase.Columns 0 n)) (answers n)) is
-      ∙ ap (owes_first (column_frames 0 (dealt_masked deal placed))) (sym (lists_begin n))
+      ∙ ap (owes_first (layouts (column_frames 0 (dealt_masked deal placed)))) (sym (lists_begin n))
 
   -- ---- a block
 

@@ -59,7 +59,7 @@ answered : (deal : ReceiverDeal) (placed : List Placed) (count : ℕ) (lists : L
 unfolding receiver_script receiver_stream columns_stream
 answered deal placed count lists bytes stream =
     let hello : List ℕ = layout (receiver_hello deal.id deal.session (length placed)) in
-    let columns : List ℕ = column_frames 0 (dealt_masked deal placed) in
+    let columns : List ℕ = layouts (column_frames 0 (dealt_masked deal placed)) in
     ap (λ (xs : List ℕ). hello ++ (columns ++ xs))
     (lists_owed deal.tag_length count 0 (3 + deal.stash) lists stream.size (recursion_from_All (IsTagList deal.tag_length count) lists stream.each))
     ∙ sym (append_assoc hello columns (layout done_frame))
@@ -93,7 +93,7 @@ blocks_wired width count list block (suc left) floor rest tags frames =
     ∙ sym (append_assoc (layout f) (flat_map layout (block_list list (block + 1) left (drop 1024 tags))) (wire_for rest frames))
 
 lists_wired : (width count list left : ℕ) (lists : List (List (List ℕ))) → length lists ≡ left → AllByRecursion (IsTagList width count) lists
-    → wire_for (awaits_lists width count list left) (lists_list list lists) ≡ lists_frames list lists ++ layout done_frame
+    → wire_for (awaits_lists width count list left) (lists_list list lists) ≡ layouts (lists_frames list lists) ++ layout done_frame
 lists_wired width count list zero [] same each = append-nil (layout done_frame)
 lists_wired width count list zero (tags ∷ lists) same each = absurd (omega arith)
 lists_wired width count list (suc left) [] same each = absurd (omega arith)
@@ -106,7 +106,7 @@ lists_wired width count list (suc left) (tags ∷ lists) same each =
     ap (λ (n : ℕ). wire_for (awaits_blocks width count list 0 n no_floor rest) (first ++ behind)) count_is
     ∙ blocks_wired width count list 0 (blocks_for (length tags)) no_floor rest tags behind
     ∙ ap₂ (λ (a b : List ℕ). a ++ b) (block_list-frames list tags) (lists_wired width count (list + 1) left lists (omega arith) each.1)
-    ∙ sym (append_assoc (list_frames list tags) (lists_frames (list + 1) lists) (layout done_frame))
+    ∙ sym (append_assoc (layouts (list_frames list tags)) (layouts (lists_frames (list + 1) lists)) (layout done_frame))
 
 -- a receiver and the frames of a sender's stream
 pub wired_whole : (deal : ReceiverDeal) (placed : List Placed) (count : ℕ) (lists : List (List (List ℕ))) (bytes : List ℕ) → IsReceiverDeal deal
@@ -116,8 +116,8 @@ unfolding receiver_script receiver_stream
 wired_whole deal placed count lists bytes is stream =
     let hello : List ℕ = layout (receiver_hello deal.id deal.session (length placed)) in
     let peer : List ℕ = layout (sender_hello deal.id deal.session count) in
-    let columns : List ℕ = column_frames 0 (dealt_masked deal placed) in
-    let tags : List ℕ = lists_frames 0 lists in
+    let columns : List ℕ = layouts (column_frames 0 (dealt_masked deal placed)) in
+    let tags : List ℕ = layouts (lists_frames 0 lists) in
     let end : List ℕ = layout done_frame in
     let each = recursion_from_All (IsTagList deal.tag_length count) lists stream.each in
     ap (λ (xs : List ℕ). hello ++ (peer ++ (columns ++ xs))) (lists_wired deal.tag_length count 0 (3 + deal.stash) lists stream.size each)

@@ -132,10 +132,10 @@ most_lists width count list (suc left) frames due =
     omega (arith, all, tags, suc-mul left (10 * blocks_for count + width * count))
 
 -- what goes over the wire after the sender's hello
-pub most_answer : (deal : ReceiverDeal) (placed : List Placed) (count rows : ℕ) → length (column_frames 0 (dealt_masked deal placed)) ≡ columns_size rows
+pub most_answer : (deal : ReceiverDeal) (placed : List Placed) (count rows : ℕ) → length (layouts (column_frames 0 (dealt_masked deal placed))) ≡ columns_size rows
     → IsMost (answers_hello deal placed count) (answer_size rows deal.tag_length count (3 + deal.stash))
 most_answer deal placed count rows long frames due =
-    let columns : List ℕ = column_frames 0 (dealt_masked deal placed) in
+    let columns : List ℕ = layouts (column_frames 0 (dealt_masked deal placed)) in
     let lists : Script = awaits_lists deal.tag_length count 0 (3 + deal.stash) in
     let all = most_lists deal.tag_length count 0 (3 + deal.stash) frames due in
     omega (arith, long, all, length-append columns (wire_for lists frames))
@@ -201,7 +201,7 @@ hello_is_first s f id session count may hello =
 
 -- a record with room for a hello and for what is sent and taken after it
 pub hello_room : (s : ReceiverState) (f : Frame) (id : List ℕ) (session count rows spare : ℕ) → MayCome (due_frame (state_of s)) f → f ≡ sender_hello id session count
-    → length (column_frames 0 (dealt_masked s.deal s.placed)) ≡ columns_size rows → 34 + answer_size rows s.deal.tag_length count (3 + s.deal.stash) ≤ spare → HasRoomFor (state_of s) f spare
+    → length (layouts (column_frames 0 (dealt_masked s.deal s.placed))) ≡ columns_size rows → 34 + answer_size rows s.deal.tag_length count (3 + s.deal.stash) ≤ spare → HasRoomFor (state_of s) f spare
 hello_room s f id session count rows spare may hello columns room =
     let due = due_is (due_frame (state_of s)) f may in
     let first = first_hello s f id session count due.0 due.1 due.2 hello in
@@ -238,7 +238,7 @@ not_first s f may other =
 
 -- ---- columns
 
-pub columns_long : (column c : ℕ) (us : List (List ℕ)) → AllByRecursion (λ u. length u ≡ column) us → length (column_frames c us) ≡ length us * (7 + column)
+pub columns_long : (column c : ℕ) (us : List (List ℕ)) → AllByRecursion (λ u. length u ≡ column) us → length (layouts (column_frames c us)) ≡ length us * (7 + column)
 columns_long column c [] are = omega arith
 columns_long column c (u ∷ us) are =
     let long = are.0 in
@@ -247,7 +247,7 @@ columns_long column c (u ∷ us) are =
       arith,
       long,
       rest,
-      length-append (layout (column_frame c u)) (column_frames (c + 1) us),
+      length-append (layout (column_frame c u)) (layouts (column_frames (c + 1) us)),
       length-column_frame c u,
       suc-mul (length us) (7 + column),
     )

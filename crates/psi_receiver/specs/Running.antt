@@ -117,7 +117,7 @@ end_for count = if nat_lt 0 count then [] else layout done_frame
 
 -- the bytes that are owed after those in the outbox
 abbrev pub rest_in : List (List ℕ) → Phase → List ℕ
-rest_in columns (phase.Columns next count) = column_frames next (drop next columns) ++ end_for count
+rest_in columns (phase.Columns next count) = layouts (column_frames next (drop next columns)) ++ end_for count
 rest_in columns phase.Done = layout done_frame
 rest_in columns p = []
 

@@ -48,7 +48,7 @@ awaits_lists width count list (suc left) =
 -- after the sender's hello: the columns are sent, and the lists of so many tags are awaited
 abbrev pub answers_hello : ReceiverDeal → List Placed → ℕ → Script
 answers_hello deal placed count =
-    sends (column_frames 0 (dealt_masked deal placed)) (awaits_lists deal.tag_length count 0 (3 + deal.stash))
+    sends (layouts (column_frames 0 (dealt_masked deal placed))) (awaits_lists deal.tag_length count 0 (3 + deal.stash))
 
 -- what a receiver with this deal and these items in their slots does
 unfoldable pub receiver_script : ReceiverDeal → List Placed → Script

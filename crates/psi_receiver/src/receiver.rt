@@ -88,7 +88,7 @@ impl<'a> ReceiverCore<'a> {
 
     /// How many rows its columns have.
     pub(crate) fn rows(&self) -> u32
-        ensures { length (column_frames 0 (dealt_masked self.now.deal self.now.placed))
+        ensures { length (layouts (column_frames 0 (dealt_masked self.now.deal self.now.placed)))
             ≡ 512 * (7 + column_bytes result) }
     {
         self.session.rows()

@@ -34,7 +34,7 @@ fn add_columns(stream: &mut Vec<u8>, outbox: &mut Outbox, columns: &Columns) -> 
     requires empty { outbox.old.pending ≡ [] }
     requires spare { outbox.old.spare ≡ outbox.old.room }
     requires room { 7 + column_bytes columns.now.rows ≤ outbox.old.room }
-    ensures added { OnOk result (stream.new.items ≡ stream.old.items ++ column_frames 0 columns.now.columns) }
+    ensures added { OnOk result (stream.new.items ≡ stream.old.items ++ layouts (column_frames 0 columns.now.columns)) }
     ensures outbox { OnOk result (outbox.new ≡ outbox.old) }
 {
     for index in 0..512u16 {

@@ -25,11 +25,11 @@ abbrev pub column_list : ℕ → List (List ℕ) → List Frame
 column_list c [] = done_frame ∷ []
 column_list c (u ∷ us) = column_frame c u ∷ column_list (c + 1) us
 
-pub column_list-bytes : (c : ℕ) (us : List (List ℕ)) → flat_map layout (column_list c us) ≡ column_frames c us ++ layout done_frame
+pub column_list-bytes : (c : ℕ) (us : List (List ℕ)) → flat_map layout (column_list c us) ≡ layouts (column_frames c us) ++ layout done_frame
 column_list-bytes c [] = append-nil (layout done_frame)
 column_list-bytes c (u ∷ us) =
     ap (λ (xs : List ℕ). layout (column_frame c u) ++ xs) (column_list-bytes (c + 1) us)
-    ∙ sym (append_assoc (layout (column_frame c u)) (column_frames (c + 1) us) (layout done_frame))
+    ∙ sym (append_assoc (layout (column_frame c u)) (layouts (column_frames (c + 1) us)) (layout done_frame))
 
 -- ---- bytes of parts
 

@@ -42,26 +42,26 @@ module _ (stash : ℕ) (s : SenderSide) (ys : List (List ℕ)) where
 
   -- the frames of a list from a block on
   abbrev blocks_from : ℕ → ℕ → List ℕ
-  blocks_from list n = flat_map (block_frame list (tags list)) (range_with_len n (blocks - n))
+  blocks_from list n = layouts (map (block_frame list (tags list)) (range_with_len n (blocks - n)))
 
   -- the frames of n lists
   abbrev lists_from : ℕ → ℕ → List ℕ
-  lists_from list n = lists_frames list (map (tag_list s ys) (range_with_len list n))
+  lists_from list n = layouts (lists_frames list (map (tag_list s ys) (range_with_len list n)))
 
-  one_block : (list block : ℕ) → block < blocks → blocks_from list block ≡ block_frame list (tags list) block ++ blocks_from list (block + 1)
+  one_block : (list block : ℕ) → block < blocks → blocks_from list block ≡ layout (block_frame list (tags list) block) ++ blocks_from list (block + 1)
   one_block list block l =
       let more : blocks - block ≡ suc (blocks - (block + 1)) = omega arith in
-      ap (λ (n : ℕ). flat_map (block_frame list (tags list)) (range_with_len block n)) more
+      ap (λ (n : ℕ). layouts (map (block_frame list (tags list)) (range_with_len block n))) more
 
   no_block : (list block : ℕ) → blocks ≤ block → blocks_from list block ≡ []
   no_block list block l =
       let none : blocks - block ≡ 0 = omega arith in
-      ap (λ (n : ℕ). flat_map (block_frame list (tags list)) (range_with_len block n)) none
+      ap (λ (n : ℕ). layouts (map (block_frame list (tags list)) (range_with_len block n))) none
 
-  whole_list : (list : ℕ) → list_frames list (tags list) ≡ blocks_from list 0
+  whole_list : (list : ℕ) → layouts (list_frames list (tags list)) ≡ blocks_from list 0
   whole_list list =
       let same : blocks_for (length (tags list)) ≡ blocks - 0 = ap blocks_for (length-tag_list s ys list) ∙ omega arith in
-      list_frames_are list (tags list) ∙ ap (λ (n : ℕ). flat_map (block_frame list (tags list)) (range_with_len 0 n)) same
+      list_frames_are list (tags list) ∙ ap (λ (n : ℕ). layouts (map (block_frame list (tags list)) (range_with_len 0 n))) same
 
   begins_list : (list : ℕ) → list < 3 + stash → lists_from list (3 + stash - list) ≡ answer_from stash s ys list 0
   unfolding answer_from
@@ -71,12 +71,12 @@ module _ (stash : ℕ) (s : SenderSide) (ys : List (List ℕ)) where
 
   -- what is left once a frame was put
   pub after_frame : (list block : ℕ) → list < 3 + stash → block < blocks
-      → answer_from stash s ys list block ≡ block_frame list (tags list) block ++ rest_in stash s ys (next_phase list block (3 + stash) blocks)
+      → answer_from stash s ys list block ≡ layout (block_frame list (tags list) block) ++ rest_in stash s ys (next_phase list block (3 + stash) blocks)
   unfolding answer_from
   after_frame list block l m = by_block (nat_lt (block + 1) blocks) refl
     where
       frame : List ℕ
-      frame = block_frame list (tags list) block
+      frame = layout (block_frame list (tags list) block)
 
       by_list : (b : Bool) → nat_lt (list + 1) (3 + stash) ≡ b
           → lists_from (list + 1) (2 + stash - list) ≡ rest_in stash s ys (cond b (phase.Tags (list + 1) 0) phase.Done)
@@ -90,15 +90,15 @@ module _ (stash : ℕ) (s : SenderSide) (ys : List (List ℕ)) where
 
       by_block : (b : Bool) → nat_lt (block + 1) blocks ≡ b
           → answer_from stash s ys list block
-          ≡ block_frame list (tags list) block ++ rest_in stash s ys (cond b (phase.Tags list (block + 1)) (cond (nat_lt (list + 1) (3 + stash)) (phase.Tags (list + 1) 0) phase.Done))
+          ≡ layout (block_frame list (tags list) block) ++ rest_in stash s ys (cond b (phase.Tags list (block + 1)) (cond (nat_lt (list + 1) (3 + stash)) (phase.Tags (list + 1) 0) phase.Done))
       by_block true e =
           ap (λ (front : List ℕ). front ++ lists_from (list + 1) (2 + stash - list)) (one_block list block m)
           ∙ append_assoc (block_frame list (tags list) block) (blocks_from list (block + 1)) (lists_from (list + 1) (2 + stash - list))
       by_block false e =
           let last = no_block list (block + 1) (ltb-false (block + 1) blocks e) in
           ap (λ (front : List ℕ). front ++ lists_from (list + 1) (2 + stash - list))
-          (one_block list block m ∙ (ap (λ (rest : List ℕ). block_frame list (tags list) block ++ rest) last ∙ append-nil (block_frame list (tags list) block)))
-          ∙ ap (λ (rest : List ℕ). block_frame list (tags list) block ++ rest) (by_list (nat_lt (list + 1) (3 + stash)) refl)
+          (one_block list block m ∙ (ap (λ (rest : List ℕ). layout (block_frame list (tags list) block) ++ rest) last ∙ append-nil (block_frame list (tags list) block)))
+          ∙ ap (λ (rest : List ℕ). layout (block_frame list (tags list) block) ++ rest) (by_list (nat_lt (list + 1) (3 + stash)) refl)
 
   no_lists : (list n : ℕ) → blocks ≡ 0 → lists_from list n ≡ []
   no_lists list zero none = refl
@@ -106,7 +106,7 @@ module _ (stash : ℕ) (s : SenderSide) (ys : List (List ℕ)) where
       ap (λ (front : List ℕ). front ++ lists_from (list + 1) n) (whole_list list ∙ no_block list 0 (omega arith)) ∙ no_lists (list + 1) n none
 
   -- what is owed after the last column
-  pub whole_answer : lists_frames 0 (tag_lists stash s ys) ≡ rest_in stash s ys (cond (nat_lt 0 (length ys)) (phase.Tags 0 0) phase.Done)
+  pub whole_answer : layouts (lists_frames 0 (tag_lists stash s ys)) ≡ rest_in stash s ys (cond (nat_lt 0 (length ys)) (phase.Tags 0 0) phase.Done)
   unfolding tag_lists
   whole_answer = by_count (nat_lt 0 (length ys)) refl
     where
@@ -205,7 +205,7 @@ module _ (deal : SenderDeal) (ys : List (List ℕ)) (count : ℕ) where
       ends_either true = refl
       ends_either false = refl
 
-      answered : lists_frames 0 (tag_lists deal.stash (side_over deal count new) ys) ≡ sender_answer deal count (row_of new) ys
+      answered : layouts (lists_frames 0 (tag_lists deal.stash (side_over deal count new) ys)) ≡ sender_answer deal count (row_of new) ys
       answered = refl
 
       state_after : Phase → EndState
@@ -284,14 +284,14 @@ pub after_tags : (deal : SenderDeal) (ys : List (List ℕ)) (count : ℕ) (memor
       deal = deal;
       items = ys;
       count = count;
-      pending = memory.outbox.pending ++ block_frame list (tag_list (side_over deal count memory.columns.columns) ys list) block;
+      pending = memory.outbox.pending ++ layout (block_frame list (tag_list (side_over deal count memory.columns.columns) ys list) block);
       rest = rest_in deal.stash (side_over deal count memory.columns.columns) ys (next_phase list block (3 + deal.stash) (blocks_for (length ys)));
       stage = stage_in memory.columns.columns (next_phase list block (3 + deal.stash) (blocks_for (length ys)));
     }) ≡ mid_state (running deal ys count memory (phase.Tags list block))
 after_tags deal ys count memory list block none l m =
     let s = side_over deal count memory.columns.columns in
     let next = next_phase list block (3 + deal.stash) (blocks_for (length ys)) in
-    let frame : List ℕ = block_frame list (tag_list s ys list) block in
+    let frame : List ℕ = layout (block_frame list (tag_list s ys list) block) in
     let rest : List ℕ = rest_in deal.stash s ys next in
     (λ i. record { owes = none i ++ frame ++ rest; next = ends_after_tags (nat_lt (block + 1) (blocks_for (length ys))) (nat_lt (list + 1) (3 + deal.stash)) i; is_new = false })
     ∙ (λ i. record { owes = (sym none) i ++ (sym (after_frame deal.stash s ys list block l m)) i; next = awaits_done; is_new = false })

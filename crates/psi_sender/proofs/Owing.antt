@@ -118,7 +118,7 @@ from_stream deal ys taken sent frames is small due owes begins =
     let answer : owed (sender_script deal ys) stream ≡ sender_stream deal count columns ys = (serves_streams deal ys count columns stream is are).sends in
     let all : owed (sender_script deal ys) stream ≡ owed_for (sender_script deal ys) frames =
     ap (owed (sender_script deal ys)) (sym (append-nil stream)) ∙ owes_all (sender_script deal ys) frames [] due in
-    for_columns count columns are.few are.column_set (begins (layout (receiver_hello deal.id deal.session count) ++ column_frames 0 columns) are.is) (owes ∙ sym all ∙ answer)
+    for_columns count columns are.few are.column_set (begins (layout (receiver_hello deal.id deal.session count) ++ layouts (column_frames 0 columns)) are.is) (owes ∙ sym all ∙ answer)
 
 -- the bytes of the end
 end_bytes : AreBytes (layout done_frame)

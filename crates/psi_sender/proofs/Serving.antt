@@ -35,7 +35,7 @@ stream_bytes : (deal : SenderDeal) (count : ℕ) (columns : List (List ℕ))
     → columns_stream deal.id deal.session count columns ≡ flat_map layout (stream_frames deal count columns)
 unfolding columns_stream stream_frames
 stream_bytes deal count columns =
-    append_assoc (layout (receiver_hello deal.id deal.session count)) (column_frames 0 columns) (layout done_frame)
+    append_assoc (layout (receiver_hello deal.id deal.session count)) (layouts (column_frames 0 columns)) (layout done_frame)
     ∙ ap (λ (xs : List ℕ). layout (receiver_hello deal.id deal.session count) ++ xs) (sym (column_list-bytes 0 columns))
 
 stream_bytes_are : (deal : SenderDeal) (count : ℕ) (columns : List (List ℕ))

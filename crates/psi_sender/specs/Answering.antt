@@ -40,5 +40,5 @@ pub record AreFor (hashes : Hashes) (opened : List (List ℕ)) (bins list count 
 -- the frames of an answer from this block of this list on
 unfoldable pub answer_from : ℕ → SenderSide → List (List ℕ) → ℕ → ℕ → List ℕ
 answer_from stash s ys list block =
-    flat_map (block_frame list (tag_list s ys list)) (range_with_len block (blocks_for (length ys) - block))
-    ++ lists_frames (list + 1) (map (tag_list s ys) (range_with_len (list + 1) (2 + stash - list)))
+    layouts (map (block_frame list (tag_list s ys list)) (range_with_len block (blocks_for (length ys) - block)))
+    ++ layouts (lists_frames (list + 1) (map (tag_list s ys) (range_with_len (list + 1) (2 + stash - list))))

@@ -60,7 +60,7 @@ pub data OwesFor (deal : SenderDeal) (ys : List (List ℕ)) (taken owed : List �
       → owed ≡ layout (sender_hello deal.id deal.session (length ys)) → OwesFor deal ys taken owed
   for_columns
       : (count : ℕ) (columns : List (List ℕ)) → count ≤ limit_items → IsColumnSet (rows_for deal.stash count) columns
-      → BeginWith (layout (receiver_hello deal.id deal.session count) ++ column_frames 0 columns) taken
+      → BeginWith (layout (receiver_hello deal.id deal.session count) ++ layouts (column_frames 0 columns)) taken
       → owed ≡ sender_stream deal count columns ys → OwesFor deal ys taken owed
 
 -- so it is for all bytes: a sender sends a front of one of these, whatever comes

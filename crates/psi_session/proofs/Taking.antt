@@ -22,7 +22,7 @@ abbrev pub columns_from : ℕ → List (List ℕ) → List Frame
 columns_from c [] = []
 columns_from c (u ∷ us) = column_frame c u ∷ columns_from (c + 1) us
 
-pub columns_from-bytes : (c : ℕ) (us : List (List ℕ)) → flat_map layout (columns_from c us) ≡ column_frames c us
+pub columns_from-bytes : (c : ℕ) (us : List (List ℕ)) → flat_map layout (columns_from c us) ≡ layouts (column_frames c us)
 columns_from-bytes c [] = refl
 columns_from-bytes c (u ∷ us) = ap (λ (xs : List ℕ). layout (column_frame c u) ++ xs) (columns_from-bytes (c + 1) us)
 

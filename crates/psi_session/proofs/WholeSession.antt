@@ -76,8 +76,8 @@ module _ (receiver : ReceiverDeal) (sender : SenderDeal) (placed : List Placed) 
   pub session_passes : length receiver.id ≡ 16 → length sender.id ≡ 16 → played_bytes session_moves ≡ session_bytes receiver sender placed ys
   unfolding session_bytes receiver_stream sender_stream
   session_passes id id' =
-      let sent : List ℕ = column_frames 0 (dealt_masked receiver placed) in
-      let tags : List ℕ = lists_frames 0 (lists_for receiver sender placed ys) in
+      let sent : List ℕ = layouts (column_frames 0 (dealt_masked receiver placed)) in
+      let tags : List ℕ = layouts (lists_frames 0 (lists_for receiver sender placed ys)) in
       let end : List ℕ = layout done_frame in
       ap (λ (xs : List ℕ). layout first_hello ++ (layout second_hello ++ xs))
       (bytes_of_first columns list_moves
@@ -158,7 +158,7 @@ module _ (receiver : ReceiverDeal) (sender : SenderDeal) (placed : List Placed) 
     unfolding opened_columns sender_stream lists_stream
     answer_is =
         let hello : List ℕ = layout second_hello in
-        let tags : List ℕ = lists_frames 0 (lists_for receiver sender placed ys) in
+        let tags : List ℕ = layouts (lists_frames 0 (lists_for receiver sender placed ys)) in
         let whole : hello ++ tags ≡ hello ++ answer =
         opened_columns_answer sender count sent ys is'.choice is'.count (are_columns (rows_for sender.stash count) sent sent_set) in
         sym (drop_at hello answer (length hello) refl) ∙ ap (drop (length hello)) (sym whole) ∙ drop_at hello tags (length hello) refl
@@ -175,10 +175,10 @@ module _ (receiver : ReceiverDeal) (sender : SenderDeal) (placed : List Placed) 
         second_sends lists end_moves (answer ++ []) [] awaits_done false tag_script (sends (layout done_frame) over)
         (ap (λ (xs : List ℕ). xs ++ []) answer_is) lists_due plays_end
 
-    plays_columns : Plays column_moves (goes_on false (sends (column_frames 0 sent) tag_script)) (goes_on false (opens_columns sender ys count [] chosen))
+    plays_columns : Plays column_moves (goes_on false (sends (layouts (column_frames 0 sent)) tag_script)) (goes_on false (opens_columns sender ys count [] chosen))
     plays_columns =
         let rest : EndState = goes_on false tag_script in
-        first_sends columns list_moves (column_frames 0 sent ++ rest.owes) rest.owes rest.next rest.is_new (opens_columns sender ys count [] chosen) (opens_columns sender ys count opened [])
+        first_sends columns list_moves (layouts (column_frames 0 sent) ++ rest.owes) rest.owes rest.next rest.is_new (opens_columns sender ys count [] chosen) (opens_columns sender ys count opened [])
         (ap (λ (xs : List ℕ). xs ++ rest.owes) (sym (columns_from-bytes 0 sent))) (columns_taken sender ys count [] chosen sent same_many columns_due) plays_lists
 
     pub plays_session : Plays session_moves (goes_on true (receiver_script receiver placed)) (goes_on true (sender_script sender ys))

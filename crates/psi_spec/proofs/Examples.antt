@@ -1,13 +1,14 @@
 -- Worked examples: the sizes of streams, the frames of a list, a sort, a change of columns, and the order of a session's
 -- bytes.
-use Rattle.std.proofs.Common.{◌≡◌, ◌++◌, ℕ, List, [], ◌∷◌, length, replicate, take, refl}
+use Rattle.std.proofs.Common.{◌≡◌, ℕ, List, [], ◌∷◌, length, replicate, take, refl}
 use Rattle.psi_spec.specs.Bits.{packed}
 use Rattle.psi_spec.specs.Columns.{row_of}
 use Rattle.psi_spec.specs.ColumnSets.{ColumnSets, masked_columns, chosen_columns}
 use Rattle.psi_spec.specs.Changes.{change, columns_file}
 use Rattle.psi_spec.specs.Rising.{rising}
-use Rattle.psi_spec.specs.Streams.{list_frames, IsReceiverStream, IsSenderStream}
-use Rattle.psi_spec.specs.Sessions.{weave}
+use Rattle.psi_spec.specs.Streams.{layouts, list_frames, IsReceiverStream, IsSenderStream}
+use Rattle.psi_spec.specs.Frames.{receiver_hello, sender_hello, column_frame, tags_frame, done_frame}
+use Rattle.psi_spec.specs.Sessions.{Move, by_receiver, by_sender, moves_with, of_receiver, of_sender}
 use Rattle.psi_spec.proofs.StreamSizes.{receiver_streams_have_sizes, sender_streams_have_sizes}
 
 -- ---- sizes
@@ -56,16 +57,16 @@ module _ (id : List ℕ) (session : ℕ) (bytes : List ℕ) (long : length id �
 
 -- list 2 of three items with tags of 16 bytes
 list_2_begins :
-    take 10 (list_frames 2 (replicate 3 (replicate 16 0))) ≡ 4 ∷ 0 ∷ 0 ∷ 0 ∷ 53 ∷ 2 ∷ 0 ∷ 0 ∷ 0 ∷ 0 ∷ []
+    take 10 (layouts (list_frames 2 (replicate 3 (replicate 16 0)))) ≡ 4 ∷ 0 ∷ 0 ∷ 0 ∷ 53 ∷ 2 ∷ 0 ∷ 0 ∷ 0 ∷ 0 ∷ []
 unfolding list_frames
 list_2_begins = refl
 
-length-list_2 : length (list_frames 2 (replicate 3 (replicate 16 0))) ≡ 58
+length-list_2 : length (layouts (list_frames 2 (replicate 3 (replicate 16 0)))) ≡ 58
 unfolding list_frames
 length-list_2 = refl
 
 -- without items there is no frame
-no_frames : list_frames 2 [] ≡ []
+no_frames : layouts (list_frames 2 []) ≡ []
 unfolding list_frames
 no_frames = refl
 
@@ -79,11 +80,27 @@ sorted_is = refl
 
 -- ---- a session
 
-woven_is :
-    weave (replicate 34 1 ++ 7 ∷ 8 ∷ [] ++ replicate 5 3) (replicate 34 2 ++ 9 ∷ [])
-    ≡ replicate 34 1 ++ replicate 34 2 ++ 7 ∷ 8 ∷ [] ++ 9 ∷ [] ++ replicate 5 3
-unfolding weave
-woven_is = refl
+-- a receiver with no bin to fill sends one column here, and the sender two lists, of which the second is empty
+moves : List Move
+moves =
+    moves_with (receiver_hello [] 0 1) (sender_hello [] 0 1) ((7 ∷ []) ∷ []) (((9 ∷ []) ∷ []) ∷ [] ∷ [])
+
+moves_are :
+    moves
+    ≡ by_receiver (receiver_hello [] 0 1)
+    ∷ by_sender (sender_hello [] 0 1)
+    ∷ by_receiver (column_frame 0 (7 ∷ []))
+    ∷ by_sender (tags_frame 0 0 (9 ∷ []))
+    ∷ by_receiver done_frame
+    ∷ []
+unfolding moves list_frames
+moves_are = refl
+
+-- what each end sends of it
+sent_are : (of_receiver moves ≡ receiver_hello [] 0 1 ∷ column_frame 0 (7 ∷ []) ∷ done_frame ∷ [])
+    × (of_sender moves ≡ sender_hello [] 0 1 ∷ tags_frame 0 0 (9 ∷ []) ∷ [])
+unfolding moves list_frames
+sent_are = (refl, refl)
 
 -- ---- a change: two columns of two rows, at the choice 1, 0
 

@@ -13,7 +13,7 @@ use Rattle.psi_spec.specs.Deals.{SenderDeal, sender_columns}
 use Rattle.psi_spec.specs.Frames.{layout, sender_hello}
 use Rattle.psi_spec.specs.Rising.{rising}
 use Rattle.psi_spec.specs.TagLists.{SenderSide, opened_row, sent_tag, tag_in_list, tag_list, tag_lists}
-use Rattle.psi_spec.specs.Streams.{lists_frames, lists_stream, side_of_rows, sender_answer, sender_stream}
+use Rattle.psi_spec.specs.Streams.{layouts, lists_frames, lists_stream, side_of_rows, sender_answer, sender_stream}
 use Rattle.psi_spec.specs.SessionLaws.{OpenedColumnsAnswer}
 use Rattle.psi_spec.proofs.Xor.{length-xor}
 use Rattle.psi_spec.proofs.ColumnSets.{length-row_of_words, length-masked_columns, length-chosen_columns, opens_columns, opens_rows}
@@ -97,7 +97,7 @@ opened_columns_answer deal count sent ys long chosen are =
     λ i. λ j. sym (opens_columns deal.choice columns sent rows j long own are) i in
     ap
     (λ (opened : ℕ → List ℕ). layout (sender_hello deal.id deal.session (length ys))
-    ++ lists_frames 0 (tag_lists deal.stash (side_of_rows deal count opened) ys)) same
+    ++ layouts (lists_frames 0 (tag_lists deal.stash (side_of_rows deal count opened) ys))) same
 
 -- a sender's stream is its hello and its answer
 pub sender_stream_is : (deal : SenderDeal) (count : ℕ) (sent ys : List (List ℕ))
@@ -166,4 +166,5 @@ module _ (deal : SenderDeal) (count : ℕ) (opened other : ℕ → List ℕ)
   pub sender_answer-within : (ys : List (List ℕ))
       → sender_answer deal count opened ys ≡ sender_answer deal count other ys
   unfolding sender_answer
-  sender_answer-within ys = ap (lists_frames 0) (tag_lists-within ys)
+  sender_answer-within ys =
+      ap (λ (lists : List (List (List ℕ))). layouts (lists_frames 0 lists)) (tag_lists-within ys)

@@ -1,19 +1,19 @@
--- How long frames and streams are, and how they lie on the wire.
-use Rattle.std.proofs.Common.{◌≡◌, ◌+◌, ◌-◌, ◌*◌, ℕ, suc, zero, List, [], ◌∷◌, ◌++◌, length, take, drop, flat_map, refl, sym, ap, ap₂, ◌∙◌, arith, suc-mul, mul_comm, add_comm}
+-- How long frames and streams are.
+use Rattle.std.proofs.Common.{◌≡◌, ◌+◌, ◌*◌, ℕ, suc, zero, List, [], ◌∷◌, ◌++◌, length, map, take, drop, refl, sym, ap, ap₂, ◌∙◌, arith, suc-mul, mul_comm, add_comm}
 use Rattle.std.specs.Int.{w16, w32, w64, to_be_bytes}
 use Rattle.std.specs.List.{AllByRecursion, range_with_len, concat}
-use Rattle.std.proofs.lemmas.List.{append_assoc, length-append, drop-drop, take_all}
+use Rattle.std.proofs.lemmas.List.{length-append, drop-drop, take_all}
 use Rattle.std.proofs.lemmas.List.Elements.{recursion_from_All}
+use Rattle.std.proofs.lemmas.Grind.{flat_map-append}
 use Rattle.std.proofs.lemmas.List.Folds.{concat-append}
-use Rattle.std.proofs.Math.Seq.{take-add, take-append_seam, drop-append_seam}
+use Rattle.std.proofs.Math.Seq.{take-add}
 use Rattle.psi_spec.specs.Limits.{rows_for}
 use Rattle.psi_spec.specs.Columns.{column_bytes}
 use Rattle.psi_spec.specs.Matrices.{IsColumn}
 use Rattle.psi_spec.specs.Frames.{framed, hello_payload, layout, receiver_hello, sender_hello, column_frame, tags_frame, done_frame}
 use Rattle.psi_spec.specs.TagLists.{IsTagList}
-use Rattle.psi_spec.specs.Streams.{column_frames, columns_stream, blocks_for, block_of, block_frame, list_frames, lists_frames, lists_stream}
-use Rattle.psi_spec.specs.Sessions.{weave}
-use Rattle.psi_spec.specs.SessionLaws.{ReceiverStreamsHaveSizes, SenderStreamsHaveSizes, SessionsAreWoven}
+use Rattle.psi_spec.specs.Streams.{column_frames, columns_stream, blocks_for, block_of, block_frame, list_frames, lists_frames, lists_stream, layouts}
+use Rattle.psi_spec.specs.SessionLaws.{ReceiverStreamsHaveSizes, SenderStreamsHaveSizes}
 
 -- ---- frames
 
@@ -54,12 +54,12 @@ length-done_frame = refl
 -- ---- streams
 
 pub length-column_frames : (rows c : ℕ) (us : List (List ℕ)) → AllByRecursion (IsColumn rows) us
-    → length (column_frames c us) ≡ length us * (7 + column_bytes rows)
+    → length (layouts (column_frames c us)) ≡ length us * (7 + column_bytes rows)
 length-column_frames rows c [] are = omega arith
 length-column_frames rows c (u ∷ us) are =
     let more : suc (length us) * (7 + column_bytes rows)
     ≡ length us * (7 + column_bytes rows) + (7 + column_bytes rows) = suc-mul (length us) (7 + column_bytes rows) in
-    length-append (layout (column_frame c u)) (column_frames (c + 1) us)
+    length-append (layout (column_frame c u)) (layouts (column_frames (c + 1) us))
     ∙ (ap₂ (λ (a b : ℕ). a + b) (length-column_frame c u ∙ ap (λ (n : ℕ). 7 + n) are.0.size)
     (length-column_frames rows (c + 1) us are.1) ∙ omega arith)
 
@@ -67,15 +67,15 @@ pub receiver_streams_have_sizes : ReceiverStreamsHaveSizes
 unfolding columns_stream
 receiver_streams_have_sizes stash id session count columns bytes l is =
     let w : ℕ = 7 + column_bytes (rows_for stash count) in
-    let frames : length (column_frames 0 columns) ≡ 512 * w =
+    let frames : length (layouts (column_frames 0 columns)) ≡ 512 * w =
     length-column_frames (rows_for stash count) 0 columns
     (recursion_from_All (IsColumn (rows_for stash count)) columns is.column_set.each)
     ∙ ap (λ (n : ℕ). n * w) is.column_set.count in
     ap length is.is
-    ∙ (length-append (layout (receiver_hello id session count) ++ column_frames 0 columns) (layout done_frame)
+    ∙ (length-append (layout (receiver_hello id session count) ++ layouts (column_frames 0 columns)) (layout done_frame)
     ∙ omega (
       arith,
-      length-append (layout (receiver_hello id session count)) (column_frames 0 columns),
+      length-append (layout (receiver_hello id session count)) (layouts (column_frames 0 columns)),
       length-receiver_hello id session count l,
       frames,
     ))
@@ -89,7 +89,7 @@ length-joined g (t ∷ tags) all =
 
 -- frames from block a on: ten bytes each, and the tags from there on
 length-blocks : (list a n : ℕ) (tags : List (List ℕ))
-    → length (flat_map (block_frame list tags) (range_with_len a n))
+    → length (layouts (map (block_frame list tags) (range_with_len a n)))
     ≡ 10 * n + length (concat (take (1024 * n) (drop (1024 * a) tags)))
 length-blocks list a zero tags = refl
 length-blocks list a (suc n) tags =
@@ -105,11 +105,11 @@ length-blocks list a (suc n) tags =
     let all : length (concat (take (1024 * suc n) from)) ≡ length (concat (block_of tags a)) + length (concat rest) =
     ap (λ (ts : List (List ℕ)). length (concat ts)) split
     ∙ (ap length (concat-append (block_of tags a) rest) ∙ length-append (concat (block_of tags a)) (concat rest)) in
-    length-append (block_frame list tags a) (flat_map (block_frame list tags) (range_with_len (a + 1) n))
+    length-append (layout (block_frame list tags a)) (layouts (map (block_frame list tags) (range_with_len (a + 1) n)))
     ∙ omega (arith, length-tags_frame list a (concat (block_of tags a)), length-blocks list (a + 1) n tags, all)
 
 pub length-list_frames : (g m list : ℕ) (tags : List (List ℕ)) → IsTagList g m tags
-    → length (list_frames list tags) ≡ 10 * blocks_for m + g * m
+    → length (layouts (list_frames list tags)) ≡ 10 * blocks_for m + g * m
 unfolding list_frames
 length-list_frames g m list tags is =
     let whole : take (1024 * blocks_for (length tags)) tags ≡ tags =
@@ -122,11 +122,12 @@ length-list_frames g m list tags is =
     ∙ ap (λ (k : ℕ). 10 * blocks_for k + g * k) is.size))
 
 pub length-lists_frames : (g m list : ℕ) (lists : List (List (List ℕ))) → AllByRecursion (IsTagList g m) lists
-    → length (lists_frames list lists) ≡ length lists * (10 * blocks_for m + g * m)
+    → length (layouts (lists_frames list lists)) ≡ length lists * (10 * blocks_for m + g * m)
 length-lists_frames g m list [] are = omega arith
 length-lists_frames g m list (tags ∷ lists) are =
     let each : ℕ = 10 * blocks_for m + g * m in
-    length-append (list_frames list tags) (lists_frames (list + 1) lists)
+    ap length (flat_map-append layout (list_frames list tags) (lists_frames (list + 1) lists))
+    ∙ length-append (layouts (list_frames list tags)) (layouts (lists_frames (list + 1) lists))
     ∙ (ap₂ (λ (a b : ℕ). a + b) (length-list_frames g m list tags are.0)
     (length-lists_frames g m (list + 1) lists are.1)
     ∙ (add_comm each (length lists * each) ∙ sym (suc-mul (length lists) each)))
@@ -136,39 +137,7 @@ unfolding lists_stream
 sender_streams_have_sizes stash id session g m lists bytes l is =
     let each : ℕ = 10 * blocks_for m + g * m in
     ap length is.is
-    ∙ (length-append (layout (sender_hello id session m)) (lists_frames 0 lists)
+    ∙ (length-append (layout (sender_hello id session m)) (layouts (lists_frames 0 lists))
     ∙ ap₂ (λ (a b : ℕ). a + b) (length-sender_hello id session m l)
     (length-lists_frames g m 0 lists (recursion_from_All (IsTagList g m) lists is.each)
     ∙ ap (λ (n : ℕ). n * each) is.size))
-
--- ---- the wire
-
-take_seam : (n : ℕ) (xs ys : List ℕ) → length xs ≡ n → take n (xs ++ ys) ≡ xs
-take_seam n xs ys l = ap (λ (k : ℕ). take k (xs ++ ys)) (sym l) ∙ take-append_seam xs ys
-
-drop_seam : (n : ℕ) (xs ys : List ℕ) → length xs ≡ n → drop n (xs ++ ys) ≡ ys
-drop_seam n xs ys l = ap (λ (k : ℕ). drop k (xs ++ ys)) (sym l) ∙ drop-append_seam xs ys
-
--- weaving takes streams apart where their parts meet
-pub woven : (h us d k ls : List ℕ) → length h ≡ 34 → length d ≡ 5 → length k ≡ 34
-    → weave (h ++ us ++ d) (k ++ ls) ≡ h ++ k ++ us ++ ls ++ d
-unfolding weave
-woven h us d k ls lh ld lk =
-    let a : List ℕ = h ++ us ++ d in
-    let turned : a ≡ h ++ (us ++ d) = append_assoc h us d in
-    let long : length a ≡ length us + 39 = omega (arith, length-append (h ++ us) d, length-append h us) in
-    let first : take 34 a ≡ h = ap (take 34) turned ∙ take_seam 34 h (us ++ d) lh in
-    let second : take 34 (k ++ ls) ≡ k = take_seam 34 k ls lk in
-    let behind : drop 34 a ≡ us ++ d = ap (drop 34) turned ∙ drop_seam 34 h (us ++ d) lh in
-    let middle : take (length a - 39) (drop 34 a) ≡ us =
-    ap (take (length a - 39)) behind ∙ take_seam (length a - 39) us d (omega arith) in
-    let third : drop 34 (k ++ ls) ≡ ls = drop_seam 34 k ls lk in
-    let last : drop (length a - 5) a ≡ d = drop_seam (length a - 5) (h ++ us) d (omega (arith, length-append h us)) in
-    cc
-
-pub sessions_are_woven : SessionsAreWoven
-unfolding columns_stream lists_stream
-sessions_are_woven id peer_id session peer_session m n columns lists l k =
-    woven (layout (receiver_hello id session m)) (column_frames 0 columns) (layout done_frame)
-    (layout (sender_hello peer_id peer_session n)) (lists_frames 0 lists)
-    (length-receiver_hello id session m l) length-done_frame (length-sender_hello peer_id peer_session n k)

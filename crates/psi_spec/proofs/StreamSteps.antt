@@ -1,82 +1,88 @@
 -- Streams one part on, as at a step of a loop that writes or reads them.
-use Rattle.std.proofs.Common.{◌≡◌, ◌+◌, ◌*◌, ◌<◌, ◌≤◌, ℕ, suc, zero, List, [], ◌∷◌, ◌++◌, length, map, take, drop, get_or, flat_map, refl, sym, ap, ap₂, ◌∙◌, arith, suc-mul}
+use Rattle.std.proofs.lemmas.Grind.{flat_map-append}
+use Rattle.std.proofs.Common.{◌≡◌, ◌+◌, ◌*◌, ◌<◌, ◌≤◌, ℕ, suc, zero, List, [], ◌∷◌, ◌++◌, length, map, take, drop, get_or, refl, sym, ap, ap₂, ◌∙◌, arith, suc-mul}
 use Rattle.std.specs.List.{AllByRecursion, concat, range_with_len}
 use Rattle.std.proofs.lemmas.List.{append-nil, append_assoc, length-append, take-append-le, drop-append-le, take_all, drop_all, take_more, take-map, drop-map, take-append-drop, length-drop, length-take-le}
 use Rattle.std.proofs.Math.Seq.{take-add}
 use Rattle.psi_spec.specs.Frames.{layout, column_frame, tags_frame, tags_of}
-use Rattle.psi_spec.specs.Streams.{column_frames, blocks_for, block_of, block_frame, list_frames, lists_frames}
+use Rattle.psi_spec.specs.Streams.{layouts, column_frames, blocks_for, block_of, block_frame, list_frames, lists_frames}
 
 -- ---- one more column
 
 pub column_frames-push : (c : ℕ) (us : List (List ℕ)) (u : List ℕ)
-    → column_frames c (us ++ u ∷ []) ≡ column_frames c us ++ layout (column_frame (c + length us) u)
+    → layouts (column_frames c (us ++ u ∷ [])) ≡ layouts (column_frames c us) ++ layout (column_frame (c + length us) u)
 column_frames-push c [] u =
     let place : c ≡ c + 0 = omega arith in
     append-nil (layout (column_frame c u)) ∙ ap (λ (k : ℕ). layout (column_frame k u)) place
 column_frames-push c (v ∷ us) u =
     let place : c + 1 + length us ≡ c + suc (length us) = omega arith in
     let first : List ℕ = layout (column_frame c v) in
-    let later : List ℕ = column_frames (c + 1) us in
+    let later : List ℕ = layouts (column_frames (c + 1) us) in
     ap (λ (rest : List ℕ). first ++ rest)
     (column_frames-push (c + 1) us u ∙ ap (λ (k : ℕ). later ++ layout (column_frame k u)) place)
     ∙ sym (append_assoc first later (layout (column_frame (c + suc (length us)) u)))
 
 -- the columns up to one more
 pub column_frames-more : (c : ℕ) (us : List (List ℕ)) (i : ℕ) → i < length us
-    → column_frames c (take (i + 1) us) ≡ column_frames c (take i us) ++ layout (column_frame (c + i) (get_or us i []))
+    → layouts (column_frames c (take (i + 1) us)) ≡ layouts (column_frames c (take i us)) ++ layout (column_frame (c + i) (get_or us i []))
 column_frames-more c us i l =
     let count : length (take i us) ≡ i = length-take-le i us (omega arith) in
-    ap (column_frames c) (take_more us i [] l)
+    ap (λ (columns : List (List ℕ)). layouts (column_frames c columns)) (take_more us i [] l)
     ∙ (column_frames-push c (take i us) (get_or us i [])
-    ∙ ap (λ (n : ℕ). column_frames c (take i us) ++ layout (column_frame (c + n) (get_or us i []))) count)
+    ∙ ap (λ (n : ℕ). layouts (column_frames c (take i us)) ++ layout (column_frame (c + n) (get_or us i []))) count)
 
 -- ---- one more list
 
 pub lists_frames-push : (list : ℕ) (ls : List (List (List ℕ))) (tags : List (List ℕ))
-    → lists_frames list (ls ++ tags ∷ []) ≡ lists_frames list ls ++ list_frames (list + length ls) tags
+    → layouts (lists_frames list (ls ++ tags ∷ [])) ≡ layouts (lists_frames list ls) ++ layouts (list_frames (list + length ls) tags)
 lists_frames-push list [] tags =
     let place : list ≡ list + 0 = omega arith in
-    append-nil (list_frames list tags) ∙ ap (λ (k : ℕ). list_frames k tags) place
+    flat_map-append layout (list_frames list tags) []
+    ∙ append-nil (layouts (list_frames list tags))
+    ∙ ap (λ (k : ℕ). layouts (list_frames k tags)) place
 lists_frames-push list (x ∷ ls) tags =
     let place : list + 1 + length ls ≡ list + suc (length ls) = omega arith in
-    let later : List ℕ = lists_frames (list + 1) ls in
-    ap (λ (rest : List ℕ). list_frames list x ++ rest)
-    (lists_frames-push (list + 1) ls tags ∙ ap (λ (k : ℕ). later ++ list_frames k tags) place)
-    ∙ sym (append_assoc (list_frames list x) later (list_frames (list + suc (length ls)) tags))
+    let later : List ℕ = layouts (lists_frames (list + 1) ls) in
+    flat_map-append layout (list_frames list x) (lists_frames (list + 1) (ls ++ tags ∷ []))
+    ∙ ap (λ (rest : List ℕ). layouts (list_frames list x) ++ rest)
+    (lists_frames-push (list + 1) ls tags ∙ ap (λ (k : ℕ). later ++ layouts (list_frames k tags)) place)
+    ∙ sym (append_assoc (layouts (list_frames list x)) later (layouts (list_frames (list + suc (length ls)) tags)))
+    ∙ ap (λ (front : List ℕ). front ++ layouts (list_frames (list + suc (length ls)) tags))
+    (sym (flat_map-append layout (list_frames list x) (lists_frames (list + 1) ls)))
 
 -- the lists up to one more
 pub lists_frames-more : (list : ℕ) (ls : List (List (List ℕ))) (i : ℕ) → i < length ls
-    → lists_frames list (take (i + 1) ls) ≡ lists_frames list (take i ls) ++ list_frames (list + i) (get_or ls i [])
+    → layouts (lists_frames list (take (i + 1) ls)) ≡ layouts (lists_frames list (take i ls)) ++ layouts (list_frames (list + i) (get_or ls i []))
 lists_frames-more list ls i l =
     let count : length (take i ls) ≡ i = length-take-le i ls (omega arith) in
-    ap (lists_frames list) (take_more ls i [] l)
+    ap (λ (lists : List (List (List ℕ))). layouts (lists_frames list lists)) (take_more ls i [] l)
     ∙ (lists_frames-push list (take i ls) (get_or ls i [])
-    ∙ ap (λ (n : ℕ). lists_frames list (take i ls) ++ list_frames (list + n) (get_or ls i [])) count)
+    ∙ ap (λ (n : ℕ). layouts (lists_frames list (take i ls)) ++ layouts (list_frames (list + n) (get_or ls i []))) count)
 
 -- ---- one more block
 
 -- the frames of a list are those of all its blocks
 pub list_frames_are : (list : ℕ) (tags : List (List ℕ))
-    → list_frames list tags ≡ flat_map (block_frame list tags) (range_with_len 0 (blocks_for (length tags)))
+    → layouts (list_frames list tags) ≡ layouts (map (block_frame list tags) (range_with_len 0 (blocks_for (length tags))))
 unfolding list_frames
 list_frames_are list tags = refl
 
 -- the frames of blocks from a on, one block more
 pub block_frames-more : (list : ℕ) (tags : List (List ℕ)) (a n : ℕ)
-    → flat_map (block_frame list tags) (range_with_len a (n + 1))
-    ≡ flat_map (block_frame list tags) (range_with_len a n) ++ block_frame list tags (a + n)
+    → layouts (map (block_frame list tags) (range_with_len a (n + 1)))
+    ≡ layouts (map (block_frame list tags) (range_with_len a n)) ++ layout (block_frame list tags (a + n))
 block_frames-more list tags a zero =
     let place : a ≡ a + 0 = omega arith in
-    append-nil (block_frame list tags a) ∙ ap (block_frame list tags) place
+    append-nil (layout (block_frame list tags a)) ∙ ap (λ (k : ℕ). layout (block_frame list tags k)) place
 block_frames-more list tags a (suc n) =
     let next : suc n + 1 ≡ suc (n + 1) = omega arith in
     let place : a + 1 + n ≡ a + suc n = omega arith in
-    let first : List ℕ = block_frame list tags a in
-    let later : List ℕ = flat_map (block_frame list tags) (range_with_len (a + 1) n) in
-    ap (λ (k : ℕ). flat_map (block_frame list tags) (range_with_len a k)) next
+    let first : List ℕ = layout (block_frame list tags a) in
+    let later : List ℕ = layouts (map (block_frame list tags) (range_with_len (a + 1) n)) in
+    ap (λ (k : ℕ). layouts (map (block_frame list tags) (range_with_len a k))) next
     ∙ (ap (λ (rest : List ℕ). first ++ rest)
-    (block_frames-more list tags (a + 1) n ∙ ap (λ (k : ℕ). later ++ block_frame list tags k) place)
-    ∙ sym (append_assoc first later (block_frame list tags (a + suc n))))
+    (block_frames-more list tags (a + 1) n ∙ ap (λ (k : ℕ). later ++ layout (block_frame list tags k)) place)
+    ∙ sym (append_assoc first later (layout (block_frame list tags (a + suc n)))))
 
 -- the tags of so many blocks and of one more
 pub take-block : (tags : List (List ℕ)) (b : ℕ)
@@ -93,8 +99,8 @@ block_of-append tags more b l =
     ∙ take-append-le 1024 (drop (1024 * b) tags) more (omega (arith, length-drop (1024 * b) tags))
 
 block_frames-append : (list : ℕ) (tags more : List (List ℕ)) (a n : ℕ) → 1024 * (a + n) ≤ length tags
-    → flat_map (block_frame list (tags ++ more)) (range_with_len a n)
-    ≡ flat_map (block_frame list tags) (range_with_len a n)
+    → layouts (map (block_frame list (tags ++ more)) (range_with_len a n))
+    ≡ layouts (map (block_frame list tags) (range_with_len a n))
 block_frames-append list tags more a zero l = refl
 block_frames-append list tags more a (suc n) l =
     ap₂ (λ (block rest : List ℕ). block ++ rest)
@@ -105,7 +111,7 @@ block_frames-append list tags more a (suc n) l =
 -- whole blocks, and then a last one
 pub list_frames-append : (list : ℕ) (tags more : List (List ℕ)) (b : ℕ)
     → length tags ≡ 1024 * b → 0 < length more → length more ≤ 1024
-    → list_frames list (tags ++ more) ≡ list_frames list tags ++ layout (tags_frame list b (concat more))
+    → layouts (list_frames list (tags ++ more)) ≡ layouts (list_frames list tags) ++ layout (tags_frame list b (concat more))
 unfolding list_frames
 list_frames-append list tags more b whole some few =
     let all : List (List ℕ) = tags ++ more in
@@ -116,12 +122,12 @@ list_frames-append list tags more b whole some few =
     ∙ ap (λ (rest : List (List ℕ)). rest ++ more) (drop_all (1024 * b) tags (omega arith)) in
     let from_zero : 0 + b ≡ b = omega arith in
     let last : block_of all b ≡ more = ap (take 1024) behind ∙ take_all 1024 more few in
-    ap (λ (n : ℕ). flat_map (block_frame list all) (range_with_len 0 n)) count
+    ap (λ (n : ℕ). layouts (map (block_frame list all) (range_with_len 0 n))) count
     ∙ (block_frames-more list all 0 b
     ∙ ap₂ (λ (front back : List ℕ). front ++ back)
     (block_frames-append list tags more 0 b (omega arith)
-    ∙ ap (λ (n : ℕ). flat_map (block_frame list tags) (range_with_len 0 n)) before)
-    (ap (block_frame list all) from_zero
+    ∙ ap (λ (n : ℕ). layouts (map (block_frame list tags) (range_with_len 0 n))) before)
+    (ap (λ (k : ℕ). layout (block_frame list all k)) from_zero
     ∙ ap (λ (block : List (List ℕ)). layout (tags_frame list b (concat block))) last))
 
 -- ---- tags that are joined

@@ -1,5 +1,6 @@
 -- What a stream tells: its bytes determine the count and the columns, or the count and the lists, that it was made of.
-use Rattle.std.proofs.Common.{◌≡◌, ◌+◌, ◌*◌, ◌/◌, ◌%◌, ◌^◌, ◌<◌, ◌≤◌, ℕ, suc, zero, List, [], ◌∷◌, ◌++◌, length, take, drop, get_or, flat_map, refl, sym, ap, ap₂, ◌∙◌, subst, arith, ⊎_elim}
+use Rattle.std.proofs.lemmas.Grind.{flat_map-append}
+use Rattle.std.proofs.Common.{◌≡◌, ◌+◌, ◌*◌, ◌/◌, ◌%◌, ◌^◌, ◌<◌, ◌≤◌, ℕ, suc, zero, List, [], ◌∷◌, ◌++◌, length, map, take, drop, get_or, refl, sym, ap, ap₂, ◌∙◌, subst, arith, ⊎_elim}
 use Rattle.std.specs.Int.{w16, w32, w64, to_be_bytes, from_be_bytes}
 use Rattle.std.specs.List.{AllByRecursion, range_with_len, concat}
 use Rattle.std.proofs.lemmas.Bool.{cases_eq}
@@ -10,7 +11,7 @@ use Rattle.psi_spec.specs.Limits.{limit_items, rows_for}
 use Rattle.psi_spec.specs.Matrices.{IsColumn}
 use Rattle.psi_spec.specs.Frames.{framed, hello_payload, layout, receiver_hello, done_frame}
 use Rattle.psi_spec.specs.TagLists.{IsTagList}
-use Rattle.psi_spec.specs.Streams.{column_frames, columns_stream, blocks_for, block_of, block_frame, list_frames, lists_frames, lists_stream}
+use Rattle.psi_spec.specs.Streams.{layouts, column_frames, columns_stream, blocks_for, block_of, block_frame, list_frames, lists_frames, lists_stream}
 use Rattle.psi_spec.specs.SessionLaws.{ReceiverStreamsTell, SenderStreamsTell}
 use Rattle.psi_spec.proofs.StreamSizes.{length-framed, length-hello_payload}
 
@@ -56,7 +57,7 @@ begin_tells kind id session m n rest rest' lm ln e =
 
 columns_tell : (rows c : ℕ) (us vs : List (List ℕ)) (rest rest' : List ℕ) → length us ≡ length vs
     → AllByRecursion (IsColumn rows) us → AllByRecursion (IsColumn rows) vs
-    → column_frames c us ++ rest ≡ column_frames c vs ++ rest' → us ≡ vs
+    → layouts (column_frames c us) ++ rest ≡ layouts (column_frames c vs) ++ rest' → us ≡ vs
 columns_tell rows c [] [] rest rest' l are_u are_v e = refl
 columns_tell rows c [] (v ∷ vs) rest rest' l are_u are_v e = absurd (omega arith)
 columns_tell rows c (u ∷ us) [] rest rest' l are_u are_v e = absurd (omega arith)
@@ -65,9 +66,9 @@ columns_tell rows c (u ∷ us) (v ∷ vs) rest rest' l are_u are_v e =
     let q : List ℕ = to_be_bytes w16 c ++ v in
     let size : length u ≡ length v = are_u.0.size ∙ sym are_v.0.size in
     let both =
-    frame_tells 3 p q (column_frames (c + 1) us ++ rest) (column_frames (c + 1) vs ++ rest') (omega (arith, size))
-    (sym (append_assoc (framed 3 p) (column_frames (c + 1) us) rest)
-    ∙ (e ∙ append_assoc (framed 3 q) (column_frames (c + 1) vs) rest')) in
+    frame_tells 3 p q (layouts (column_frames (c + 1) us) ++ rest) (layouts (column_frames (c + 1) vs) ++ rest') (omega (arith, size))
+    (sym (append_assoc (framed 3 p) (layouts (column_frames (c + 1) us)) rest)
+    ∙ (e ∙ append_assoc (framed 3 q) (layouts (column_frames (c + 1) vs)) rest')) in
     ap₂ (λ (x : List ℕ) (xs : List (List ℕ)). x ∷ xs)
     (append_cancel_left (to_be_bytes w16 c) u v both.0)
     (columns_tell rows (c + 1) us vs rest rest' (omega arith) are_u.1 are_v.1 both.1)
@@ -76,11 +77,11 @@ pub receiver_streams_tell : ReceiverStreamsTell
 unfolding columns_stream
 receiver_streams_tell stash id session m n us vs bytes first second =
     let begun =
-    begin_tells 1 id session m n (column_frames 0 us ++ layout done_frame)
-    (column_frames 0 vs ++ layout done_frame) first.few second.few
-    (sym (append_assoc (layout (receiver_hello id session m)) (column_frames 0 us) (layout done_frame))
+    begin_tells 1 id session m n (layouts (column_frames 0 us) ++ layout done_frame)
+    (layouts (column_frames 0 vs) ++ layout done_frame) first.few second.few
+    (sym (append_assoc (layout (receiver_hello id session m)) (layouts (column_frames 0 us)) (layout done_frame))
     ∙ (sym first.is
-    ∙ (second.is ∙ append_assoc (layout (receiver_hello id session n)) (column_frames 0 vs) (layout done_frame)))) in
+    ∙ (second.is ∙ append_assoc (layout (receiver_hello id session n)) (layouts (column_frames 0 vs)) (layout done_frame)))) in
     let long : length us ≡ length vs = first.column_set.count ∙ sym second.column_set.count in (
       begun.0,
       columns_tell (rows_for stash m) 0 us vs (layout done_frame) (layout done_frame) long
@@ -144,16 +145,16 @@ AreOfLength-block g b tags all = AreOfLength-take g 1024 (drop (1024 * b) tags) 
 
 blocks_tell : (g list a n : ℕ) (xs ys : List (List ℕ)) (rest rest' : List ℕ) → length xs ≡ length ys → AreOfLength g xs
     → AreOfLength g ys
-    → flat_map (block_frame list xs) (range_with_len a n) ++ rest
-    ≡ flat_map (block_frame list ys) (range_with_len a n) ++ rest'
+    → layouts (map (block_frame list xs) (range_with_len a n)) ++ rest
+    ≡ layouts (map (block_frame list ys) (range_with_len a n)) ++ rest'
     → ((b : ℕ) → a ≤ b → b < a + n → block_of xs b ≡ block_of ys b) × (rest ≡ rest')
 blocks_tell g list a zero xs ys rest rest' l all_x all_y e = (λ b low high. absurd (omega arith), e)
 blocks_tell g list a (suc n) xs ys rest rest' l all_x all_y e =
     let head : List ℕ = list ∷ to_be_bytes w32 a in
     let p : List ℕ = head ++ concat (block_of xs a) in
     let q : List ℕ = head ++ concat (block_of ys a) in
-    let later_x : List ℕ = flat_map (block_frame list xs) (range_with_len (a + 1) n) in
-    let later_y : List ℕ = flat_map (block_frame list ys) (range_with_len (a + 1) n) in
+    let later_x : List ℕ = layouts (map (block_frame list xs) (range_with_len (a + 1) n)) in
+    let later_y : List ℕ = layouts (map (block_frame list ys) (range_with_len (a + 1) n)) in
     let long : length (block_of xs a) ≡ length (block_of ys a) = same_length_blocks a xs ys l in
     let joined : length (concat (block_of xs a)) ≡ length (concat (block_of ys a)) =
     same_length_joined g (block_of xs a) (block_of ys a) long (AreOfLength-block g a xs all_x)
@@ -190,27 +191,30 @@ same_from_blocks xs ys l same =
     ∙ (ap (λ (tags : List (List ℕ)). get_or tags (i % 1024) []) (same (i / 1024) (omega arith)) ∙ get_or-block ys i))
 
 list_frames_tell : (g m list : ℕ) (xs ys : List (List ℕ)) (rest rest' : List ℕ) → IsTagList g m xs → IsTagList g m ys
-    → list_frames list xs ++ rest ≡ list_frames list ys ++ rest' → (xs ≡ ys) × (rest ≡ rest')
+    → layouts (list_frames list xs) ++ rest ≡ layouts (list_frames list ys) ++ rest' → (xs ≡ ys) × (rest ≡ rest')
 unfolding list_frames
 list_frames_tell g m list xs ys rest rest' is_x is_y e =
     let l : length xs ≡ length ys = is_x.size ∙ sym is_y.size in
     let count : ℕ = blocks_for (length xs) in
-    let turned : flat_map (block_frame list ys) (range_with_len 0 (blocks_for (length ys))) ++ rest'
-    ≡ flat_map (block_frame list ys) (range_with_len 0 count) ++ rest' =
-    ap (λ (n : ℕ). flat_map (block_frame list ys) (range_with_len 0 (blocks_for n)) ++ rest') (sym l) in
+    let turned : layouts (map (block_frame list ys) (range_with_len 0 (blocks_for (length ys)))) ++ rest'
+    ≡ layouts (map (block_frame list ys) (range_with_len 0 count)) ++ rest' =
+    ap (λ (n : ℕ). layouts (map (block_frame list ys) (range_with_len 0 (blocks_for n))) ++ rest') (sym l) in
     let both =
     blocks_tell g list 0 count xs ys rest rest' l (recursion_from_All (λ tag. length tag ≡ g) xs is_x.lengths)
     (recursion_from_All (λ tag. length tag ≡ g) ys is_y.lengths) (e ∙ turned) in
     (same_from_blocks xs ys l (λ b within. both.0 b (omega arith) (omega arith)), both.1)
 
 lists_tell : (g m list : ℕ) (ls ks : List (List (List ℕ))) → length ls ≡ length ks → AllByRecursion (IsTagList g m) ls
-    → AllByRecursion (IsTagList g m) ks → lists_frames list ls ≡ lists_frames list ks → ls ≡ ks
+    → AllByRecursion (IsTagList g m) ks → layouts (lists_frames list ls) ≡ layouts (lists_frames list ks) → ls ≡ ks
 lists_tell g m list [] [] l are_l are_k e = refl
 lists_tell g m list [] (k ∷ ks) l are_l are_k e = absurd (omega arith)
 lists_tell g m list (x ∷ ls) [] l are_l are_k e = absurd (omega arith)
 lists_tell g m list (x ∷ ls) (y ∷ ks) l are_l are_k e =
     let both =
-    list_frames_tell g m list x y (lists_frames (list + 1) ls) (lists_frames (list + 1) ks) are_l.0 are_k.0 e in
+    list_frames_tell g m list x y (layouts (lists_frames (list + 1) ls)) (layouts (lists_frames (list + 1) ks)) are_l.0
+    are_k.0
+    (sym (flat_map-append layout (list_frames list x) (lists_frames (list + 1) ls))
+    ∙ (e ∙ flat_map-append layout (list_frames list y) (lists_frames (list + 1) ks))) in
     ap₂ (λ (z : List (List ℕ)) (zs : List (List (List ℕ))). z ∷ zs) both.0
     (lists_tell g m (list + 1) ls ks (omega arith) are_l.1 are_k.1 both.1)
 
@@ -218,7 +222,7 @@ pub sender_streams_tell : SenderStreamsTell
 unfolding lists_stream
 sender_streams_tell stash id session tag_length m n ls ks bytes first second =
     let begun =
-    begin_tells 2 id session m n (lists_frames 0 ls) (lists_frames 0 ks) first.few second.few
+    begin_tells 2 id session m n (layouts (lists_frames 0 ls)) (layouts (lists_frames 0 ks)) first.few second.few
     (sym first.is ∙ second.is) in (
       begun.0,
       lists_tell tag_length m 0 ls ks (first.size ∙ sym second.size)

@@ -31,6 +31,30 @@ layout (column_frame index bytes) = framed 3 (to_be_bytes w16 index ++ bytes)
 layout (tags_frame list block tags) = framed 4 (list ∷ to_be_bytes w32 block ++ tags)
 layout done_frame = framed 5 []
 
+-- ---- sizes, in bytes
+
+-- what a frame begins with: its kind, and the length of its payload
+abbrev pub header_size : ℕ
+header_size = 5
+
+-- a hello
+abbrev pub hello_size : ℕ
+hello_size = 34
+
+-- what stands before the column of its frame: the header and the index
+abbrev pub column_head : ℕ
+column_head = header_size + 2
+
+-- what stands before the tags of a frame: the header, the list and the block
+abbrev pub tags_head : ℕ
+tags_head = header_size + 5
+
+-- done is a header alone
+abbrev pub done_size : ℕ
+done_size = header_size
+
+-- ---- what fits
+
 -- each of the numbers is a byte
 abbrev pub AreBytes : List ℕ → Type 0
 AreBytes bytes = (i : ℕ) → slice_index bytes i < 2 ^ 8

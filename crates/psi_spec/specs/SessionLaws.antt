@@ -1,5 +1,5 @@
 -- The laws of sessions: what streams hide, what they tell, how long they are, and what the receiver finds in them.
-use Rattle.std.specs.Prelude.{◌≡◌, ◌≤◌, ◌<◌, ◌+◌, ◌*◌, ℕ, List, ◌++◌, length, IsPermutation}
+use Rattle.std.specs.Prelude.{◌≡◌, ◌≤◌, ◌<◌, ◌+◌, ◌*◌, ℕ, List, [], ◌∷◌, ◌++◌, length, IsPermutation}
 use Rattle.psi_spec.specs.Limits.{limit_items, bins_for, rows_for}
 use Rattle.psi_spec.specs.Columns.{column_bytes, row_of}
 use Rattle.psi_spec.specs.Matrices.{AreColumns}
@@ -7,11 +7,11 @@ use Rattle.psi_spec.specs.ColumnSets.{ColumnSets, AreColumnSets, masked_columns,
 use Rattle.psi_spec.specs.Deals.{ReceiverDeal, SenderDeal, ArePair, zero_columns, one_columns, sender_columns}
 use Rattle.psi_spec.specs.Placement.{Slot, IsPlacementOf}
 use Rattle.psi_spec.specs.Meeting.{Placed, placed_of, Setup, IsSetup, shown, ShowsCommon, setup_of}
-use Rattle.psi_spec.specs.Frames.{layout, receiver_hello, sender_hello, done_frame}
+use Rattle.psi_spec.specs.Frames.{Frame, layout, receiver_hello, sender_hello, done_frame, hello_size, column_head, tags_head, done_size}
 use Rattle.psi_spec.specs.TagLists.{SenderSide, opened_row, tag_lists}
-use Rattle.psi_spec.specs.Streams.{row_words, words_of, column_frames, columns_stream, receiver_stream, blocks_for, lists_frames, lists_stream, sender_side, sender_answer, sender_stream, IsReceiverStream, IsSenderStream}
+use Rattle.psi_spec.specs.Streams.{row_words, words_of, dealt_sets, layouts, column_frames, columns_stream, receiver_stream, blocks_for, lists_frames, lists_stream, sender_side, sender_answer, sender_stream, IsReceiverStream, IsSenderStream}
 use Rattle.psi_spec.specs.Hits.{ReceiverSide, hit_items, receiver_side}
-use Rattle.psi_spec.specs.Sessions.{weave, dealt_masked, session_bytes}
+use Rattle.psi_spec.specs.Sessions.{dealt_masked, moves_with, of_receiver, of_sender, session_bytes, session_moves, wire_bytes}
 
 -- ---- the order of the sender's items
 
@@ -105,28 +105,44 @@ SenderStreamsTell =
 
 -- ---- sizes
 
--- a receiver's stream has a hello of 34 bytes, 512 frames of 7 bytes and a column, and an end of 5 bytes
+-- a receiver's stream has a hello, 512 frames of a column, and an end
 abbrev pub ReceiverStreamsHaveSizes : Type 0
 ReceiverStreamsHaveSizes =
     (stash : ℕ) (id : List ℕ) (session count : ℕ) (columns : List (List ℕ)) (bytes : List ℕ)
     → length id ≡ 16 → IsReceiverStream stash id session count columns bytes
-    → length bytes ≡ 39 + 512 * (7 + column_bytes (rows_for stash count))
+    → length bytes ≡ hello_size + 512 * (column_head + column_bytes (rows_for stash count)) + done_size
 
--- a sender's stream has a hello of 34 bytes, and of each list 10 bytes a frame and the tags
+-- a sender's stream has a hello, and of each list what stands before the tags of each frame, and the tags
 abbrev pub SenderStreamsHaveSizes : Type 0
 SenderStreamsHaveSizes =
     (stash : ℕ) (id : List ℕ) (session tag_length count : ℕ) (lists : List (List (List ℕ))) (bytes : List ℕ)
     → length id ≡ 16 → IsSenderStream stash id session tag_length count lists bytes
-    → length bytes ≡ 34 + (3 + stash) * (10 * blocks_for count + tag_length * count)
+    → length bytes ≡ hello_size + (3 + stash) * (tags_head * blocks_for count + tag_length * count)
 
--- on the wire stand both hellos, the columns, the lists and the end
-abbrev pub SessionsAreWoven : Type 0
-SessionsAreWoven =
+-- ---- moves
+
+-- of the moves of a session the receiver makes its hello, the columns and done, and the sender its hello and the lists
+abbrev pub EndsMove : Type 0
+EndsMove =
+    (hello answer : Frame) (columns : List (List ℕ)) (lists : List (List (List ℕ)))
+    → (of_receiver (moves_with hello answer columns lists) ≡ hello ∷ column_frames 0 columns ++ done_frame ∷ [])
+    × (of_sender (moves_with hello answer columns lists) ≡ answer ∷ lists_frames 0 lists)
+
+-- over a pair of deals, or any others, these are the receiver's and the sender's stream
+abbrev pub SessionsHaveStreams : Type 0
+SessionsHaveStreams =
+    (receiver : ReceiverDeal) (sender : SenderDeal) (placed : List Placed) (ys : List (List ℕ))
+    → (layouts (of_receiver (session_moves receiver sender placed ys))
+    ≡ receiver_stream receiver placed (dealt_sets receiver (rows_for receiver.stash (length placed))))
+    × (layouts (of_sender (session_moves receiver sender placed ys))
+    ≡ sender_stream sender (length placed) (dealt_masked receiver placed) ys)
+
+-- the wire of a session has as many bytes as both streams
+abbrev pub WiresJoinStreams : Type 0
+WiresJoinStreams =
     (id peer_id : List ℕ) (session peer_session m n : ℕ) (columns : List (List ℕ)) (lists : List (List (List ℕ)))
-    → length id ≡ 16 → length peer_id ≡ 16
-    → weave (columns_stream id session m columns) (lists_stream peer_id peer_session n lists)
-    ≡ layout (receiver_hello id session m) ++ layout (sender_hello peer_id peer_session n)
-    ++ column_frames 0 columns ++ lists_frames 0 lists ++ layout done_frame
+    → length (wire_bytes (moves_with (receiver_hello id session m) (sender_hello peer_id peer_session n) columns lists))
+    ≡ length (columns_stream id session m columns) + length (lists_stream peer_id peer_session n lists)
 
 -- ---- what the receiver finds
 

@@ -1,12 +1,12 @@
 -- What the two ends of a session send.
-use Rattle.std.specs.Prelude.{◌≡◌, ◌≤◌, ◌+◌, ◌*◌, ◌/◌, ℕ, List, [], ◌∷◌, ◌++◌, length, map, take, drop, All}
+use Rattle.std.specs.Prelude.{◌≡◌, ◌≤◌, ◌+◌, ◌-◌, ◌*◌, ◌/◌, ℕ, List, [], ◌∷◌, ◌++◌, length, map, take, drop, All}
 use Rattle.std.specs.List.{concat, flat_map, range_with_len}
 use Rattle.psi_spec.specs.Limits.{limit_items, bins_for, rows_for}
 use Rattle.psi_spec.specs.Matrices.{IsColumnSet}
 use Rattle.psi_spec.specs.ColumnSets.{ColumnSets, masked_columns}
 use Rattle.psi_spec.specs.Deals.{ReceiverDeal, SenderDeal, zero_columns, one_columns, sender_columns}
 use Rattle.psi_spec.specs.Meeting.{Placed, row_word}
-use Rattle.psi_spec.specs.Frames.{layout, receiver_hello, sender_hello, column_frame, tags_frame, done_frame}
+use Rattle.psi_spec.specs.Frames.{Frame, layout, receiver_hello, sender_hello, column_frame, tags_frame, done_frame}
 use Rattle.psi_spec.specs.TagLists.{SenderSide, opened_row, tag_lists, IsTagList}
 
 -- ---- the receiver's stream
@@ -19,15 +19,19 @@ row_words key placed rows = map (row_word key placed) (range_with_len 0 rows)
 abbrev pub words_of : ReceiverDeal → List Placed → List (List ℕ)
 words_of deal placed = row_words deal.key placed (rows_for deal.stash (length placed))
 
+-- the bytes of frames, one after another
+abbrev pub layouts : List Frame → List ℕ
+layouts frames = flat_map layout frames
+
 -- the frames of columns, from number c on
-abbrev pub column_frames : ℕ → List (List ℕ) → List ℕ
+abbrev pub column_frames : ℕ → List (List ℕ) → List Frame
 column_frames c [] = []
-column_frames c (column ∷ columns) = layout (column_frame c column) ++ column_frames (c + 1) columns
+column_frames c (column ∷ columns) = column_frame c column ∷ column_frames (c + 1) columns
 
 -- the bytes of a receiver that has so many items and sends these columns: its hello, the columns, and done
 unfoldable pub columns_stream : List ℕ → ℕ → ℕ → List (List ℕ) → List ℕ
 columns_stream id session count columns =
-    layout (receiver_hello id session count) ++ column_frames 0 columns ++ layout done_frame
+    layout (receiver_hello id session count) ++ layouts (column_frames 0 columns) ++ layout done_frame
 
 -- the receiver's stream of a placed set, over any two column sets
 unfoldable pub receiver_stream : ReceiverDeal → List Placed → ColumnSets → List ℕ
@@ -46,28 +50,28 @@ block_tags = 1024
 
 -- the frames that hold so many tags
 abbrev pub blocks_for : ℕ → ℕ
-blocks_for count = (count + 1023) / block_tags
+blocks_for count = (count + (block_tags - 1)) / block_tags
 
 -- the tags of a block
 abbrev pub block_of : List (List ℕ) → ℕ → List (List ℕ)
 block_of tags block = take block_tags (drop (block_tags * block) tags)
 
 -- the frame of a block of a list
-abbrev pub block_frame : ℕ → List (List ℕ) → ℕ → List ℕ
-block_frame list tags block = layout (tags_frame list block (concat (block_of tags block)))
+abbrev pub block_frame : ℕ → List (List ℕ) → ℕ → Frame
+block_frame list tags block = tags_frame list block (concat (block_of tags block))
 
 -- the frames of a list
-unfoldable pub list_frames : ℕ → List (List ℕ) → List ℕ
-list_frames list tags = flat_map (block_frame list tags) (range_with_len 0 (blocks_for (length tags)))
+unfoldable pub list_frames : ℕ → List (List ℕ) → List Frame
+list_frames list tags = map (block_frame list tags) (range_with_len 0 (blocks_for (length tags)))
 
 -- the frames of lists, from this number on
-abbrev pub lists_frames : ℕ → List (List (List ℕ)) → List ℕ
+abbrev pub lists_frames : ℕ → List (List (List ℕ)) → List Frame
 lists_frames list [] = []
 lists_frames list (tags ∷ lists) = list_frames list tags ++ lists_frames (list + 1) lists
 
 -- the bytes of a sender that has so many items and sends these lists: its hello and the lists
 unfoldable pub lists_stream : List ℕ → ℕ → ℕ → List (List (List ℕ)) → List ℕ
-lists_stream id session count lists = layout (sender_hello id session count) ++ lists_frames 0 lists
+lists_stream id session count lists = layout (sender_hello id session count) ++ layouts (lists_frames 0 lists)
 
 -- what a sender makes tags with, of its deal, of a receiver's count and of the words of the rows that it opened
 abbrev pub side_of_rows : SenderDeal → ℕ → (ℕ → List ℕ) → SenderSide
@@ -86,7 +90,8 @@ sender_side deal count sent =
 
 -- the frames that a sender answers a receiver's columns with, over any opened rows
 unfoldable pub sender_answer : SenderDeal → ℕ → (ℕ → List ℕ) → List (List ℕ) → List ℕ
-sender_answer deal count opened ys = lists_frames 0 (tag_lists deal.stash (side_of_rows deal count opened) ys)
+sender_answer deal count opened ys =
+    layouts (lists_frames 0 (tag_lists deal.stash (side_of_rows deal count opened) ys))
 
 -- the sender's stream for a receiver's count and columns
 unfoldable pub sender_stream : SenderDeal → ℕ → List (List ℕ) → List (List ℕ) → List ℕ

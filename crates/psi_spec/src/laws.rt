@@ -30,7 +30,9 @@ ghost use Rattle.psi_spec.specs.SessionLaws.{
   SenderStreamsTell,
   ReceiverStreamsHaveSizes,
   SenderStreamsHaveSizes,
-  SessionsAreWoven,
+  EndsMove,
+  SessionsHaveStreams,
+  WiresJoinStreams,
   SetupsHitShown,
   PairsFindShown,
 };
@@ -118,11 +120,18 @@ pub fn streams_tell()
     ensures lists { SenderStreamsTell }
 {}
 
-/// How long streams are, and where their parts stand on the wire.
+/// How long streams are.
 pub fn streams_have_sizes()
     ensures receivers { ReceiverStreamsHaveSizes }
     ensures senders { SenderStreamsHaveSizes }
-    ensures woven { SessionsAreWoven }
+{}
+
+/// Which frames of a session either end sends, that over a pair of deals they are the ends' streams, and that on the wire
+/// stands as much as both streams have.
+pub fn sessions_are_moves()
+    ensures ends { EndsMove }
+    ensures streams { SessionsHaveStreams }
+    ensures sizes { WiresJoinStreams }
 {}
 
 /// What the receiver finds in the sender's lists is what is shown: in every setup over any columns, and for every pair

@@ -10,7 +10,7 @@ loop-index-preserved c =
     let i : ℕ = c.loop-index.index in
     let columns : List (List ℕ) = c.args.columns.now.columns in
     let before : List ℕ = c.args.stream.now.items in
-    let so_far : List ℕ = column_frames 0 (take i columns) in
+    let so_far : List ℕ = layouts (column_frames 0 (take i columns)) in
     let shape : IsMatrix c.args.columns.now = c.column-bytes.ensures.matrix in
     let from_zero : 0 + i ≡ i = omega arith in
     record {

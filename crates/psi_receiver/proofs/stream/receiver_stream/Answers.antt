@@ -11,7 +11,7 @@ returns c =
     let begun = c.in_ok-add_frame.ensures.added
     ∙ (ap (λ (stream : List ℕ). stream ++ layout (receiver_hello c.id.result.now c.session.result count)) c.in_ok-stream.ensures.items
     ∙ ap₂ (λ (id : List ℕ) (session : ℕ). layout (receiver_hello id session count)) c.id.ensures.id c.session.ensures) in
-    let columns = ap (λ (m : Matrix). column_frames 0 m.columns) c.mask.ensures.columns in
+    let columns = ap (λ (m : Matrix). layouts (column_frames 0 m.columns)) c.mask.ensures.columns in
     c.in_ok-add_frame-2.ensures.added
     ∙ ap (λ (stream : List ℕ). stream ++ layout done_frame)
     (c.in_ok-add_columns.ensures.added ∙ ap₂ (λ (stream frames : List ℕ). stream ++ frames) begun columns)

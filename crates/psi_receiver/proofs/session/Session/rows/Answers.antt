@@ -13,8 +13,8 @@ returns c =
     let sent : Matrix = c.self.inside.memory.sent in
     let holds = c.self.invariant.holds in
     let each = recursion_from_All (λ (u : List ℕ). length u ≡ column_bytes sent.rows) sent.columns holds.columns.columns.long in
-    ap (λ (s : ReceiverState). length (column_frames 0 (dealt_masked s.deal s.placed))) (sym c.self.view_is)
-    ∙ (ap (λ (m : Matrix). length (column_frames 0 m.columns)) (sym holds.sent)
+    ap (λ (s : ReceiverState). length (layouts (column_frames 0 (dealt_masked s.deal s.placed)))) (sym c.self.view_is)
+    ∙ (ap (λ (m : Matrix). length (layouts (column_frames 0 m.columns))) (sym holds.sent)
     ∙ (columns_long (column_bytes sent.rows) 0 sent.columns each
     ∙ ((λ i. holds.columns.columns.count i * (7 + column_bytes sent.rows))
     ∙ ap (λ (n : ℕ). 512 * (7 + column_bytes n)) (sym c.rows.ensures.rows))))
