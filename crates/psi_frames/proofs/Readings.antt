@@ -9,11 +9,11 @@ use Rattle.psi_frames.specs.declared.expect.Expect.{Expect}
 use Rattle.psi_frames.specs.declared.reasons.Reason.{Reason}
 use Rattle.psi_frames.specs.Dialogue.{Reading, bad, good, short}
 use Rattle.psi_frames.specs.Expected.{IsValid, IsWhole, frame_at, frame_length, wrong}
-use Rattle.psi_frames.specs.Script.{AreAwaited, Script, awaits, by_fault, over, owed, owed_for, reading_from, sends}
-use Rattle.psi_frames.specs.ScriptLaws.{AreDue, IsFinal, OwedGrows, OwesAll, OwesOn, ReadingStays, ReadsAs, ReadsAwaited, ReadsFrames, ReadsOn, reached}
+use Rattle.psi_frames.specs.Script.{AreAwaited, Script, awaits, by_fault, frames_of, over, owed, owed_for, reading_from, sends}
+use Rattle.psi_frames.specs.ScriptLaws.{AreDue, IsFinal, OwedGrows, OwesAll, OwesOn, ReadingStays, ReadsAs, ReadsAwaited, ReadsFrames, ReadsOn, TakesAwaited, reached}
 use Rattle.psi_frames.proofs.Fed.{take_past}
 use Rattle.psi_frames.proofs.Judged.{wrong_stays}
-use Rattle.psi_frames.proofs.Scripts.{owed-whole, reading-begun, reading-whole}
+use Rattle.psi_frames.proofs.Scripts.{frames_of-whole, owed-whole, reading-begun, reading-whole}
 use Rattle.psi_frames.proofs.Sending.{valid_of}
 use Rattle.psi_frames.proofs.Spelled.{whole_at}
 
@@ -72,6 +72,21 @@ awaited_good script frames before more awaited =
 pub reads_awaited : ReadsAwaited
 reads_awaited script frames taken more read =
     ap (λ (xs : List ℕ). reading_from script [] (xs ++ more)) read.bytes ∙ awaited_good script frames [] more read.due ∙ ap (λ (xs : List ℕ). good xs) (sym read.bytes)
+
+-- the frames that are taken of them
+frames_awaited : (script : Script) (frames : List Frame) (more : List ℕ) → AreAwaited script frames → frames_of script (flat_map layout frames ++ more) ≡ frames
+frames_awaited over [] more due = refl
+frames_awaited over (f ∷ frames) more due = absurd due
+frames_awaited (sends out rest) frames more due = frames_awaited rest frames more due
+frames_awaited (awaits e next) [] more due = absurd due
+frames_awaited (awaits e next) (f ∷ frames) more due =
+    ap (frames_of (awaits e next)) (append_assoc (layout f) (flat_map layout frames) more)
+    ∙ frames_of-whole e next f (flat_map layout frames ++ more) due.0
+    ∙ ap (λ (fs : List Frame). f ∷ fs) (frames_awaited (next f) frames more due.1)
+
+pub takes_awaited : TakesAwaited
+takes_awaited script frames taken more read =
+    ap (λ (xs : List ℕ). frames_of script (xs ++ more)) read.bytes ∙ frames_awaited script frames more read.due
 
 -- ---- bytes that follow
 

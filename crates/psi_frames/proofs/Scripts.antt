@@ -1,5 +1,5 @@
 -- Scripts, frame by frame.
-use Rattle.std.proofs.Common.{◌≡◌, ◌<◌, ◌≤◌, ◌+◌, ◌-◌, ◌∙◌, ℕ, Bool, true, false, List, [], ◌++◌, length, take, drop, nat_lt, Option, Some, None, Ok, Err, subst, refl, ap, ap₂, arith, append_assoc, length-append}
+use Rattle.std.proofs.Common.{◌≡◌, ◌<◌, ◌≤◌, ◌+◌, ◌-◌, ◌∙◌, ℕ, Bool, true, false, List, [], ◌∷◌, ◌++◌, length, take, drop, nat_lt, Option, Some, None, Ok, Err, subst, refl, ap, ap₂, arith, append_assoc, length-append}
 use Rattle.std.specs.declared.result.Result.{Result}
 use Rattle.std.proofs.lemmas.Bool.{le-ltb, lt-ltb}
 use Rattle.std.proofs.lemmas.List.{drop_at, take_all, take_at}
@@ -11,7 +11,7 @@ use Rattle.psi_frames.specs.declared.turns.EndFault.{EndFault}
 use Rattle.psi_frames.specs.Converse.{Converses, ConversesWith}
 use Rattle.psi_frames.specs.Dialogue.{Talks, Dialogue, bad, short}
 use Rattle.psi_frames.specs.Expected.{IsBegun, IsValid, frame_at, frame_length, wrong}
-use Rattle.psi_frames.specs.Script.{AreAwaited, IsRead, IsSettled, IsWithin, Script, awaits, by_fault, by_front, dialogue_of, goes_on, over, owed, reading_from, script_of, sends, wanted, wanted_of, wire_for}
+use Rattle.psi_frames.specs.Script.{AreAwaited, IsRead, IsSettled, IsWithin, Script, awaits, by_fault, by_front, dialogue_of, frames_of, goes_on, over, owed, reading_from, script_of, sends, wanted, wanted_of, wire_for}
 use Rattle.psi_frames.proofs.Fed.{take_past}
 use Rattle.psi_frames.proofs.FrameAt.{frame_at_layout}
 use Rattle.psi_frames.proofs.Judged.{wrong_stays}
@@ -88,6 +88,15 @@ owed-whole e next f more valid =
     by_front-whole e bytes (λ why. []) [] (λ frame. owed (next frame) (drop (frame_length e) bytes))
     (ap (wrong e) front ∙ valid.right) (omega (arith, valid.long, length-append (layout f) more))
     ∙ ap₂ (λ (frame : Frame) (xs : List ℕ). owed (next frame) xs) (ap (frame_at e) front ∙ frame_at_layout e f valid) back
+
+pub frames_of-whole : (e : Expect) (next : Frame → Script) (f : Frame) (more : List ℕ) → IsValid e f → frames_of (awaits e next) (layout f ++ more) ≡ f ∷ frames_of (next f) more
+frames_of-whole e next f more valid =
+    let bytes : List ℕ = layout f ++ more in
+    let front : take (frame_length e) bytes ≡ layout f = take_at (layout f) more (frame_length e) valid.long in
+    let back : drop (frame_length e) bytes ≡ more = drop_at (layout f) more (frame_length e) valid.long in
+    by_front-whole e bytes (λ why. []) [] (λ frame. frame ∷ frames_of (next frame) (drop (frame_length e) bytes))
+    (ap (wrong e) front ∙ valid.right) (omega (arith, valid.long, length-append (layout f) more))
+    ∙ ap₂ (λ (frame : Frame) (xs : List ℕ). frame ∷ frames_of (next frame) xs) (ap (frame_at e) front ∙ frame_at_layout e f valid) back
 
 pub wanted-whole : (e : Expect) (next : Frame → Script) (f : Frame) (more : List ℕ) → IsValid e f → wanted (awaits e next) (layout f ++ more) ≡ wanted (next f) more
 wanted-whole e next f more valid =

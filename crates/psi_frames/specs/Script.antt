@@ -73,6 +73,17 @@ wire_for (sends out rest) frames = out ++ wire_for rest frames
 wire_for (awaits e next) [] = []
 wire_for (awaits e next) (f ∷ frames) = layout f ++ wire_for (next f) frames
 
+-- the whole frames, at the front of these bytes of the peer, that a script takes
+abbrev pub frames_of : Script → List ℕ → List Frame
+frames_of over bytes = []
+frames_of (sends out rest) bytes = frames_of rest bytes
+frames_of (awaits e next) bytes =
+    by_front e bytes (λ why. []) [] (λ frame. frame ∷ frames_of (next frame) (drop (frame_length e) bytes))
+
+-- all that stands on the wire once these bytes of the peer were taken
+abbrev pub wire_of : Script → List ℕ → List ℕ
+wire_of script bytes = wire_for script (frames_of script bytes)
+
 -- these frames, one after another, are all that a script awaits
 abbrev pub AreAwaited : Script → List Frame → Type 0
 AreAwaited over [] = ⊤

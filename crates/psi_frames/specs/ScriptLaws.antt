@@ -6,7 +6,7 @@ use Rattle.psi_frames.specs.declared.expect.Expect.{Expect}
 use Rattle.psi_frames.specs.declared.reasons.BadFrame.{BadFrame}
 use Rattle.psi_frames.specs.Dialogue.{Reading, good, bad, short}
 use Rattle.psi_frames.specs.Expected.{IsBegun, IsValid, frame_length, wrong}
-use Rattle.psi_frames.specs.Script.{AreAwaited, IsRead, Script, over, sends, awaits, owed, owed_for, reading_from}
+use Rattle.psi_frames.specs.Script.{AreAwaited, IsRead, Script, over, sends, awaits, frames_of, owed, owed_for, reading_from}
 
 -- what a script still does after these frames, past all that it sends for them
 abbrev pub reached : Script → List Frame → Script
@@ -111,3 +111,9 @@ abbrev pub ReadsAwaited : Type 0
 ReadsAwaited =
     (script : Script) (frames : List Frame) (taken more : List ℕ) → IsRead script frames taken
     → reading_from script [] (taken ++ more) ≡ good taken
+
+-- the frames of these bytes are those that a script awaits, whatever follows them
+abbrev pub TakesAwaited : Type 0
+TakesAwaited =
+    (script : Script) (frames : List Frame) (taken more : List ℕ) → IsRead script frames taken
+    → frames_of script (taken ++ more) ≡ frames

@@ -1,6 +1,6 @@
 //! Laws of frames. Each function does nothing: its contract is the law.
 ghost use Rattle.psi_frames.specs.Laws.{FieldsFill, OrderBySorting, TagsByPlace, NoneBelowZeros, WrongStays, OneOfThree, OneFrame, FedInPieces, ReadsWritten, RefusedTakesNone};
-ghost use Rattle.psi_frames.specs.ScriptLaws.{OwedGrows, OwesAll, OwesOn, ReadingStays, ReadsAwaited, ReadsFrames, ReadsOn};
+ghost use Rattle.psi_frames.specs.ScriptLaws.{OwedGrows, OwesAll, OwesOn, ReadingStays, ReadsAwaited, ReadsFrames, ReadsOn, TakesAwaited};
 ghost use Rattle.psi_frames.specs.Valid.{ValidByParts};
 
 /// The fields of a frame fill it. Tags stand one after another; they are in order exactly where they rise
@@ -42,12 +42,13 @@ pub fn refusing()
 
 /// A script reads bytes frame by frame. They read well, badly or short exactly where they are frames that are
 /// due, and then nothing is, a field of the next is wrong, or the next is only begun. A reading that is not short
-/// stays, whatever follows.
+/// stays, whatever follows. The frames that are taken of bytes are those that are awaited, where they are there.
 pub fn readings()
     ensures exact { ReadsFrames }
     ensures awaited { ReadsAwaited }
     ensures on { ReadsOn }
     ensures stays { ReadingStays }
+    ensures frames { TakesAwaited }
 {}
 
 /// What a script owes is owed frame by frame, and what is owed for some bytes is a front of what is owed for
