@@ -1,5 +1,5 @@
 -- The frames that a receiver awaits are those of a sender's stream.
-use Rattle.std.proofs.Common.{◌≡◌, ◌<◌, ◌≤◌, ◌+◌, ◌-◌, ◌*◌, ◌^◌, ◌∙◌, ℕ, suc, zero, false, List, [], ◌∷◌, ◌++◌, length, take, drop, get_or, replicate, min, nat_cmp, IsSorted, refl, sym, ap, ap₂, subst, ⊎_elim, arith, length-append}
+use Rattle.std.proofs.Common.{◌≡◌, ◌<◌, ◌≤◌, ◌+◌, ◌-◌, ◌*◌, ◌^◌, ◌∙◌, ℕ, suc, zero, false, List, [], ◌∷◌, ◌++◌, length, map, take, drop, get_or, replicate, min, nat_cmp, IsSorted, refl, sym, ap, ap₂, subst, ⊎_elim, arith, length-append}
 use Rattle.std.specs.Cmp.Lexicographic.{slice_cmp}
 use Rattle.std.specs.List.{AllByRecursion, concat, flat_map, range_with_len}
 use Rattle.std.proofs.lemmas.Bool.{cases_lt}
@@ -8,7 +8,7 @@ use Rattle.std.proofs.lemmas.List.Elements.{All-from_recursion, recursion_from_A
 use Rattle.std.proofs.Math.Nat.{mul-le-mul_right}
 use Rattle.std.proofs.lemmas.Grind.{flat_map-append}
 use Rattle.psi_spec.specs.Frames.{AreBytes, Frame, is_below, layout, receiver_hello, sender_hello, column_frame, tags_frame, done_frame, tags_of}
-use Rattle.psi_spec.specs.Streams.{block_frame, blocks_for, list_frames, lists_frames}
+use Rattle.psi_spec.specs.Streams.{layouts, block_frame, blocks_for, list_frames, lists_frames}
 use Rattle.psi_spec.specs.TagLists.{IsTagList}
 use Rattle.psi_spec.proofs.Frames.{AreBytes-take, none_below_zeros}
 use Rattle.psi_spec.proofs.Padding.{take-padded}
@@ -113,16 +113,16 @@ lists_list list [] = []
 lists_list list (tags ∷ lists) = block_list list 0 (blocks_for (length tags)) tags ++ lists_list (list + 1) lists
 
 block_list-bytes : (list block left : ℕ) (tags : List (List ℕ))
-    → flat_map layout (block_list list block left (drop (1024 * block) tags)) ≡ layouts (map (block_frame list tags) (range_with_len block left))
+    → layouts (block_list list block left (drop (1024 * block) tags)) ≡ layouts (map (block_frame list tags) (range_with_len block left))
 block_list-bytes list block zero tags = refl
 block_list-bytes list block (suc left) tags =
     let next : 1024 * block + 1024 ≡ 1024 * (block + 1) = omega arith in
-    ap (λ (ts : List (List ℕ)). layout (block_frame list tags block) ++ flat_map layout (block_list list (block + 1) left ts))
+    ap (λ (ts : List (List ℕ)). layout (block_frame list tags block) ++ layouts (block_list list (block + 1) left ts))
     (drop-drop 1024 (1024 * block) tags ∙ ap (λ (k : ℕ). drop k tags) next)
     ∙ ap (λ (xs : List ℕ). layout (block_frame list tags block) ++ xs) (block_list-bytes list (block + 1) left tags)
 
 pub block_list-frames : (list : ℕ) (tags : List (List ℕ))
-    → flat_map layout (block_list list 0 (blocks_for (length tags)) tags) ≡ layouts (list_frames list tags)
+    → layouts (block_list list 0 (blocks_for (length tags)) tags) ≡ layouts (list_frames list tags)
 block_list-frames list tags =
     block_list-bytes list 0 (blocks_for (length tags)) tags ∙ sym (list_frames_are list tags)
 
@@ -130,8 +130,8 @@ pub lists_list-bytes : (list : ℕ) (lists : List (List (List ℕ))) → flat_ma
 lists_list-bytes list [] = refl
 lists_list-bytes list (tags ∷ lists) =
     flat_map-append layout (block_list list 0 (blocks_for (length tags)) tags) (lists_list (list + 1) lists)
-    ∙ ap₂ (λ (a b : List ℕ). a ++ b)
-    (block_list-frames list tags) (lists_list-bytes (list + 1) lists)
+    ∙ ap₂ (λ (a b : List ℕ). a ++ b) (block_list-frames list tags) (lists_list-bytes (list + 1) lists)
+    ∙ sym (flat_map-append layout (list_frames list tags) (lists_frames (list + 1) lists))
 
 -- ---- they are awaited
 

@@ -5,7 +5,7 @@ use Rattle.psi_spec.specs.Deals.{ReceiverDeal}
 use Rattle.psi_spec.specs.Frames.{Frame, layout, receiver_hello, done_frame}
 use Rattle.psi_spec.specs.Meeting.{Placed}
 use Rattle.psi_spec.specs.Sessions.{dealt_masked}
-use Rattle.psi_spec.specs.Streams.{blocks_for, column_frames, columns_stream, receiver_stream}
+use Rattle.psi_spec.specs.Streams.{layouts, blocks_for, column_frames, columns_stream, receiver_stream}
 use Rattle.psi_frames.specs.declared.expect.Expect.{Expect}
 use Rattle.psi_frames.specs.declared.expect.Expect.TheVariants as expect
 use Rattle.psi_frames.specs.declared.reasons.Reason.{Reason}

@@ -6,7 +6,7 @@ use Rattle.psi_spec.specs.Deals.{ReceiverDeal}
 use Rattle.psi_spec.specs.Frames.{Frame, layout, column_frame, done_frame}
 use Rattle.psi_spec.specs.Meeting.{Placed}
 use Rattle.psi_spec.specs.Sessions.{dealt_masked}
-use Rattle.psi_spec.specs.Streams.{blocks_for, column_frames}
+use Rattle.psi_spec.specs.Streams.{layouts, blocks_for, column_frames}
 use Rattle.psi_frames.specs.Boxes.{OutboxState, with_sent}
 use Rattle.psi_frames.specs.Expected.{IsValid}
 use Rattle.psi_frames.specs.Script.{EndState, MayCome, Script, after_taking, awaits, due_after, due_frame, goes_on, next_turn, over, owes_first, sends}

@@ -1,4 +1,5 @@
--- A receiver takes a sender's stream, and nothing else, and sends its own for it; both stand woven on the wire.
+-- A receiver takes a sender's stream, and nothing else, and sends its own for it; the moves of both stand on the wire.
+use Rattle.std.proofs.lemmas.Grind.{flat_map-append}
 use Rattle.std.proofs.Common.{◌≡◌, ◌≤◌, ◌+◌, ◌∙◌, ℕ, suc, zero, List, [], ◌∷◌, ◌++◌, length, take, drop, refl, sym, ap, ap₂, subst, arith, append_assoc, length-append}
 use Rattle.std.specs.List.{AllByRecursion, concat, flat_map}
 use Rattle.std.proofs.lemmas.Bool.Decides.{nat_tests}
@@ -8,20 +9,20 @@ use Rattle.psi_spec.specs.Limits.{limit_items}
 use Rattle.psi_spec.specs.Deals.{ReceiverDeal, IsReceiverDeal}
 use Rattle.psi_spec.specs.Frames.{AreBytes, Frame, layout, receiver_hello, sender_hello, column_frame, tags_frame, done_frame}
 use Rattle.psi_spec.specs.Meeting.{Placed}
-use Rattle.psi_spec.specs.Sessions.{dealt_masked, weave}
-use Rattle.psi_spec.specs.Streams.{blocks_for, column_frames, columns_stream, list_frames, lists_frames, lists_stream, receiver_stream}
+use Rattle.psi_spec.specs.Sessions.{dealt_masked, wire_bytes}
+use Rattle.psi_spec.specs.Streams.{layouts, blocks_for, column_frames, columns_stream, list_frames, lists_frames, lists_stream, receiver_stream}
 use Rattle.psi_spec.specs.TagLists.{IsTagList}
-use Rattle.psi_spec.proofs.StreamSizes.{sessions_are_woven}
+use Rattle.psi_spec.proofs.SessionMoves.{wire_is}
 use Rattle.psi_frames.specs.Dialogue.{good}
 use Rattle.psi_frames.specs.declared.expect.Expect.TheVariants as expect
 use Rattle.psi_frames.specs.Expected.{IsValid, frame_at, frame_length, wrong}
-use Rattle.psi_frames.specs.Script.{AreAwaited, Script, awaits, over, owed_for, sends, wire_for}
+use Rattle.psi_frames.specs.Script.{AreAwaited, IsRead, Script, awaits, over, owed_for, sends, wire_for, wire_of}
 use Rattle.psi_frames.specs.Valid.{HasParts}
 use Rattle.psi_frames.proofs.FrameAt.{frame_at_layout}
 use Rattle.psi_frames.proofs.Parts.{valid_by_parts, valid_from_parts}
 use Rattle.psi_frames.proofs.Scripts.{by_front-whole}
-use Rattle.psi_frames.proofs.Readings.{owes_all, reads_awaited, reads_frames}
-use Rattle.psi_receiver.specs.Laws.{HearsNothingElse, HearsStreams, IsStreamFor, own_stream, receiver_dialogue, wire_of}
+use Rattle.psi_frames.proofs.Readings.{owes_all, reads_awaited, reads_frames, takes_awaited}
+use Rattle.psi_receiver.specs.Laws.{HearsNothingElse, HearsStreams, IsStreamFor, moves_heard, own_stream, receiver_dialogue}
 use Rattle.psi_receiver.specs.Script.{answers_hello, awaits_blocks, awaits_lists, count_in, floor_after, no_floor, receiver_script, tags_at}
 use Rattle.psi_receiver.proofs.Awaited.{WereLists, block_list, block_list-frames, bytes-left, bytes-right, lists_awaited, lists_list, lists_list-bytes, lists_owed, lists_read}
 
@@ -66,22 +67,6 @@ answered deal placed count lists bytes stream =
 
 -- ---- the wire
 
-wire_of-awaited : (script : Script) (frames : List Frame) → AreAwaited script frames → wire_of script (flat_map layout frames) ≡ wire_for script frames
-wire_of-awaited over [] due = refl
-wire_of-awaited over (f ∷ frames) due = absurd due
-wire_of-awaited (sends out rest) frames due = ap (λ (xs : List ℕ). out ++ xs) (wire_of-awaited rest frames due)
-wire_of-awaited (awaits e next) [] due = absurd due
-wire_of-awaited (awaits e next) (f ∷ frames) due =
-    let more : List ℕ = flat_map layout frames in
-    let bytes : List ℕ = layout f ++ more in
-    let valid : IsValid e f = due.0 in
-    let front : take (frame_length e) bytes ≡ layout f = take_at (layout f) more (frame_length e) valid.long in
-    let back : drop (frame_length e) bytes ≡ more = drop_at (layout f) more (frame_length e) valid.long in
-    by_front-whole e bytes (λ why. []) [] (λ frame. take (frame_length e) bytes ++ wire_of (next frame) (drop (frame_length e) bytes))
-    (ap (wrong e) front ∙ valid.right) (omega (arith, valid.long, length-append (layout f) more))
-    ∙ ap₂ (λ (frame : Frame) (xs : List ℕ). take (frame_length e) bytes ++ wire_of (next frame) xs) (ap (frame_at e) front ∙ frame_at_layout e f valid) back
-    ∙ ap₂ (λ (a b : List ℕ). a ++ b) front (wire_of-awaited (next f) frames due.1)
-
 blocks_wired : (width count list block left : ℕ) (floor : List ℕ) (rest : Script) (tags : List (List ℕ)) (frames : List Frame)
     → wire_for (awaits_blocks width count list block left floor rest) (block_list list block left tags ++ frames)
     ≡ flat_map layout (block_list list block left tags) ++ wire_for rest frames
@@ -107,39 +92,36 @@ lists_wired width count list (suc left) (tags ∷ lists) same each =
     ∙ blocks_wired width count list 0 (blocks_for (length tags)) no_floor rest tags behind
     ∙ ap₂ (λ (a b : List ℕ). a ++ b) (block_list-frames list tags) (lists_wired width count (list + 1) left lists (omega arith) each.1)
     ∙ sym (append_assoc (layouts (list_frames list tags)) (layouts (lists_frames (list + 1) lists)) (layout done_frame))
+    ∙ ap (λ (xs : List ℕ). xs ++ layout done_frame) (sym (flat_map-append layout (list_frames list tags) (lists_frames (list + 1) lists)))
 
 -- a receiver and the frames of a sender's stream
-pub wired_whole : (deal : ReceiverDeal) (placed : List Placed) (count : ℕ) (lists : List (List (List ℕ))) (bytes : List ℕ) → IsReceiverDeal deal
+pub wired_whole : (deal : ReceiverDeal) (placed : List Placed) (count : ℕ) (lists : List (List (List ℕ))) (bytes : List ℕ)
     → IsStreamFor deal count lists bytes
-    → wire_for (receiver_script deal placed) (stream_frames deal count lists) ≡ weave (own_stream deal placed) (lists_stream deal.id deal.session count lists)
-unfolding receiver_script receiver_stream
-wired_whole deal placed count lists bytes is stream =
-    let hello : List ℕ = layout (receiver_hello deal.id deal.session (length placed)) in
-    let peer : List ℕ = layout (sender_hello deal.id deal.session count) in
+    → wire_for (receiver_script deal placed) (stream_frames deal count lists) ≡ wire_bytes (moves_heard deal placed count lists)
+unfolding receiver_script
+wired_whole deal placed count lists bytes stream =
+    let hello : Frame = receiver_hello deal.id deal.session (length placed) in
+    let answer : Frame = sender_hello deal.id deal.session count in
     let columns : List ℕ = layouts (column_frames 0 (dealt_masked deal placed)) in
-    let tags : List ℕ = layouts (lists_frames 0 lists) in
-    let end : List ℕ = layout done_frame in
     let each = recursion_from_All (IsTagList deal.tag_length count) lists stream.each in
-    ap (λ (xs : List ℕ). hello ++ (peer ++ (columns ++ xs))) (lists_wired deal.tag_length count 0 (3 + deal.stash) lists stream.size each)
-    ∙ (ap (λ (xs : List ℕ). hello ++ xs) (ap (λ (xs : List ℕ). peer ++ xs) (sym (append_assoc columns tags end)))
-    ∙ (sym (append_assoc hello peer (columns ++ tags ++ end))
-    ∙ (sym (append_assoc (hello ++ peer) (columns ++ tags) end)
-    ∙ (ap (λ (xs : List ℕ). xs ++ end) (sym (append_assoc (hello ++ peer) columns tags))
-    ∙ sym (sessions_are_woven deal.id deal.id deal.session deal.session (length placed) count (dealt_masked deal placed) lists is.id is.id)))))
+    ap (λ (xs : List ℕ). layout hello ++ (layout answer ++ (columns ++ xs))) (lists_wired deal.tag_length count 0 (3 + deal.stash) lists stream.size each)
+    ∙ sym (wire_is hello answer (dealt_masked deal placed) lists)
 
 pub hears_streams : HearsStreams
 unfolding receiver_dialogue
 hears_streams deal placed count lists bytes is stream =
+    let script : Script = receiver_script deal placed in
     let frames : List Frame = stream_frames deal count lists in
     let due = stream_due deal placed count lists bytes is stream in
     let same : bytes ≡ flat_map layout frames = stream.is ∙ stream_bytes deal count lists in
+    let read : IsRead script frames bytes = record { due = due; bytes = same } in
     record {
-      reads = λ more. reads_awaited (receiver_script deal placed) frames bytes more (record { due = due; bytes = same });
+      reads = λ more. reads_awaited script frames bytes more read;
       sends = subst (λ (xs : List ℕ). (receiver_dialogue deal placed).owes xs ≡ own_stream deal placed) (sym same)
-          (ap (receiver_dialogue deal placed).owes (sym (append-nil (flat_map layout frames))) ∙ owes_all (receiver_script deal placed) frames [] due
+          (ap (receiver_dialogue deal placed).owes (sym (append-nil (flat_map layout frames))) ∙ owes_all script frames [] due
           ∙ answered deal placed count lists bytes stream);
-      wire = ap (wire_of (receiver_script deal placed)) same ∙ wire_of-awaited (receiver_script deal placed) frames due
-          ∙ wired_whole deal placed count lists bytes is stream ∙ ap (weave (own_stream deal placed)) (sym stream.is);
+      wire = ap (wire_of script) (sym (append-nil bytes)) ∙ ap (wire_for script) (takes_awaited script frames bytes [] read)
+          ∙ wired_whole deal placed count lists bytes stream;
     }
 
 -- ---- nothing else

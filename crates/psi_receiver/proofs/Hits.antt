@@ -21,7 +21,7 @@ use Rattle.psi_spec.proofs.Padding.{is_hit_by_padded_tags}
 use Rattle.psi_spec.proofs.StreamSizes.{length-joined}
 use Rattle.psi_spec.proofs.StreamSteps.{tags_of-concat}
 use Rattle.psi_receiver.specs.Marking.{padded_tags, tags_in}
-use Rattle.psi_receiver.specs.Own.{AreMarked, AreShownBy, IsShownBy, Marked, own_tag_of, tags_for}
+use Rattle.psi_receiver.specs.Own.{AreMarked, AreShownBy, IsShownBy, Marked, in_list, own_tag_of}
 use Rattle.psi_receiver.specs.Receiving.{finder, hits_of}
 use Rattle.psi_receiver.proofs.Awaited.{all-drop, all-take, block_list, lists_list}
 
@@ -36,54 +36,61 @@ padded_block g tags some all =
     ap (λ (n : ℕ). n / g) (length-joined g tags all ∙ exact) ∙ div-mul-add (length tags) g 0 (omega arith) in
     ap (λ (n : ℕ). map (padded g) (tags_of n g (concat tags))) many ∙ ap (map (padded g)) (tags_of-concat g tags all)
 
--- the blocks of a list have its tags
-tags_of_blocks : (g l list block left : ℕ) (tags : List (List ℕ)) (frames : List Frame) → 1 ≤ g → list ≡ l → length tags ≤ 1024 * left
-    → AllByRecursion (λ tag. length tag ≡ g) tags
-    → tags_for g l (block_list list block left tags ++ frames) ≡ map (padded g) tags ++ tags_for g l frames
-tags_of_blocks g l list block zero [] frames some same few all = refl
-tags_of_blocks g l list block zero (tag ∷ tags) frames some same few all = absurd (omega arith)
-tags_of_blocks g l list block (suc left) tags frames some same few all =
-    let front : List (List ℕ) = take 1024 tags in
-    let back : List (List ℕ) = drop 1024 tags in
-    let later : List Frame = block_list list (block + 1) left back ++ frames in
-    let rest : List (List ℕ) = tags_for g l frames in
-    ap (λ (b : Bool). cond b (padded_tags g (concat front)) [] ++ tags_for g l later) (eq-eqb list l same)
-    ∙ ap₂ (λ (a b : List (List ℕ)). a ++ b)
-    (padded_block g front some (all-take (λ tag. length tag ≡ g) 1024 tags all))
-    (tags_of_blocks g l list (block + 1) left back frames some same (omega (arith, length-drop 1024 tags))
-    (all-drop (λ tag. length tag ≡ g) 1024 tags all))
-    ∙ sym (append_assoc (map (padded g) front) (map (padded g) back) rest)
-    ∙ ap (λ (ts : List (List ℕ)). ts ++ rest)
-    (sym (map-append (padded g) front back) ∙ ap (map (padded g)) (take-append-drop 1024 tags))
+-- `of` makes of the joined tags of a block what `each` makes of them one by one
+abbrev pub MakesEach : {A : Type 0} → ℕ → (List ℕ → List A) → (List ℕ → A) → Type 0
+MakesEach g of each =
+    (tags : List (List ℕ)) → AllByRecursion (λ tag. length tag ≡ g) tags → of (concat tags) ≡ map each tags
 
--- the blocks of another list have none of them
-tags_of_others : (g l list block left : ℕ) (tags : List (List ℕ)) (frames : List Frame) → (list ≡ l → ⊥)
-    → tags_for g l (block_list list block left tags ++ frames) ≡ tags_for g l frames
-tags_of_others g l list block zero tags frames other = refl
-tags_of_others g l list block (suc left) tags frames other =
-    ap (λ (b : Bool). cond b (padded_tags g (concat (take 1024 tags))) [] ++ tags_for g l (block_list list (block + 1) left (drop 1024 tags) ++ frames)) (ne_eqb list l other)
-    ∙ tags_of_others g l list (block + 1) left (drop 1024 tags) frames other
+module _ {A : Type 0} (of : List ℕ → List A) where
+  -- the blocks of another list have nothing of a list
+  others_not_in : (l list block left : ℕ) (tags : List (List ℕ)) (frames : List Frame) → (list ≡ l → ⊥)
+      → in_list of l (block_list list block left tags ++ frames) ≡ in_list of l frames
+  others_not_in l list block zero tags frames other = refl
+  others_not_in l list block (suc left) tags frames other =
+      ap (λ (b : Bool). cond b (of (concat (take 1024 tags))) [] ++ in_list of l (block_list list (block + 1) left (drop 1024 tags) ++ frames)) (ne_eqb list l other)
+      ∙ others_not_in l list (block + 1) left (drop 1024 tags) frames other
 
--- lists from a number on have no tags of a list before it
-tags_of_later : (g l list : ℕ) (lists : List (List (List ℕ))) → l < list → tags_for g l (lists_list list lists) ≡ []
-tags_of_later g l list [] low = refl
-tags_of_later g l list (tags ∷ lists) low =
-    tags_of_others g l list 0 (blocks_for (length tags)) tags (lists_list (list + 1) lists) (λ e. omega arith)
-    ∙ tags_of_later g l (list + 1) lists (omega arith)
+  -- lists from a number on have nothing of a list before it
+  later_not_in : (l list : ℕ) (lists : List (List (List ℕ))) → l < list → in_list of l (lists_list list lists) ≡ []
+  later_not_in l list [] low = refl
+  later_not_in l list (tags ∷ lists) low =
+      others_not_in l list 0 (blocks_for (length tags)) tags (lists_list (list + 1) lists) (λ e. omega arith)
+      ∙ later_not_in l (list + 1) lists (omega arith)
 
--- the frames of lists have the tags of each, padded
-tags_of_lists : (g l list k count : ℕ) (lists : List (List (List ℕ))) → 1 ≤ g → list + k ≡ l
-    → AllByRecursion (IsTagList g count) lists → tags_for g l (lists_list list lists) ≡ map (padded g) (get_or lists k [])
-tags_of_lists g l list k count [] some at each = refl
-tags_of_lists g l list zero count (tags ∷ lists) some at each =
-    let is : IsTagList g count tags = each.0 in
-    tags_of_blocks g l list 0 (blocks_for (length tags)) tags (lists_list (list + 1) lists) some (omega arith) (omega arith)
-    (recursion_from_All (λ tag. length tag ≡ g) tags is.lengths)
-    ∙ ap (λ (ts : List (List ℕ)). map (padded g) tags ++ ts) (tags_of_later g l (list + 1) lists (omega arith))
-    ∙ append-nil (map (padded g) tags)
-tags_of_lists g l list (suc k) count (tags ∷ lists) some at each =
-    tags_of_others g l list 0 (blocks_for (length tags)) tags (lists_list (list + 1) lists) (λ e. omega arith)
-    ∙ tags_of_lists g l (list + 1) k count lists some (omega arith) each.1
+  module _ (g : ℕ) (each : List ℕ → A) (makes : MakesEach g of each) where
+    -- the blocks of a list have its tags
+    blocks_in : (l list block left : ℕ) (tags : List (List ℕ)) (frames : List Frame) → list ≡ l → length tags ≤ 1024 * left
+        → AllByRecursion (λ tag. length tag ≡ g) tags
+        → in_list of l (block_list list block left tags ++ frames) ≡ map each tags ++ in_list of l frames
+    blocks_in l list block zero [] frames same few all = refl
+    blocks_in l list block zero (tag ∷ tags) frames same few all = absurd (omega arith)
+    blocks_in l list block (suc left) tags frames same few all =
+        let front : List (List ℕ) = take 1024 tags in
+        let back : List (List ℕ) = drop 1024 tags in
+        let later : List Frame = block_list list (block + 1) left back ++ frames in
+        let rest : List A = in_list of l frames in
+        ap (λ (b : Bool). cond b (of (concat front)) [] ++ in_list of l later) (eq-eqb list l same)
+        ∙ ap₂ (λ (a b : List A). a ++ b)
+        (makes front (all-take (λ tag. length tag ≡ g) 1024 tags all))
+        (blocks_in l list (block + 1) left back frames same (omega (arith, length-drop 1024 tags))
+        (all-drop (λ tag. length tag ≡ g) 1024 tags all))
+        ∙ sym (append_assoc (map each front) (map each back) rest)
+        ∙ ap (λ (ts : List A). ts ++ rest)
+        (sym (map-append each front back) ∙ ap (map each) (take-append-drop 1024 tags))
+
+    -- the frames of lists have the tags of each
+    pub lists_in : (l list k count : ℕ) (lists : List (List (List ℕ))) → list + k ≡ l
+        → AllByRecursion (IsTagList g count) lists → in_list of l (lists_list list lists) ≡ map each (get_or lists k [])
+    lists_in l list k count [] at are = refl
+    lists_in l list zero count (tags ∷ lists) at are =
+        let is : IsTagList g count tags = are.0 in
+        blocks_in l list 0 (blocks_for (length tags)) tags (lists_list (list + 1) lists) (omega arith) (omega arith)
+        (recursion_from_All (λ tag. length tag ≡ g) tags is.lengths)
+        ∙ ap (λ (ts : List A). map each tags ++ ts) (later_not_in l (list + 1) lists (omega arith))
+        ∙ append-nil (map each tags)
+    lists_in l list (suc k) count (tags ∷ lists) at are =
+        others_not_in l list 0 (blocks_for (length tags)) tags (lists_list (list + 1) lists) (λ e. omega arith)
+        ∙ lists_in l (list + 1) k count lists (omega arith) are.1
 
 -- ---- what is shown
 
@@ -127,6 +134,7 @@ shown_are_hits deal placed count lists marks shown is within each marked many by
         by.as_marked
         ∙ marked list m m_at by.place by.within
         ∙ ap₂ (λ (ts : List (List ℕ)) (x : List ℕ). list_any (bytes_eq x) ts)
-        (tags_of_lists g list 0 list count lists (some_width deal is) (omega arith) (recursion_from_All (IsTagList g count) lists each)) by.same
+        (lists_in (padded_tags g) g (padded g) (λ tags all. padded_block g tags (some_width deal is) all) list 0 list count lists (omega arith)
+        (recursion_from_All (IsTagList g count) lists each)) by.same
         ∙ sym (is_hit_by_padded_tags (finder deal placed) lists p)
         ∙ sym (get_or-map hit placed i nothing false inside)

@@ -6,7 +6,7 @@ use Rattle.std.proofs.lemmas.List.{append-nil}
 use Rattle.psi_spec.specs.Deals.{ReceiverDeal, IsReceiverDeal}
 use Rattle.psi_spec.specs.Frames.{AreBytes, Frame, layout, receiver_hello}
 use Rattle.psi_spec.specs.Meeting.{Placed}
-use Rattle.psi_spec.specs.Sessions.{weave}
+use Rattle.psi_spec.specs.Sessions.{wire_bytes}
 use Rattle.psi_base.specs.Outside.{Known, Outside}
 use Rattle.psi_frames.specs.declared.turns.EndFault.{EndFault}
 use Rattle.psi_frames.specs.Converse.{ConversesWith, KeepsAll}
@@ -14,7 +14,7 @@ use Rattle.psi_frames.specs.Dialogue.{Talks}
 use Rattle.psi_frames.specs.Script.{IsRead, Script, dialogue_of, over, script_of, sends, wire_for}
 use Rattle.psi_spec.specs.TagLists.{IsTagList}
 use Rattle.psi_receiver.specs.Own.{AreMarked}
-use Rattle.psi_receiver.specs.Laws.{IsStreamFor, own_stream, receiver_dialogue}
+use Rattle.psi_receiver.specs.Laws.{IsStreamFor, moves_heard, receiver_dialogue}
 use Rattle.psi_receiver.specs.Logging.{KeptLog, LoggedState}
 use Rattle.psi_receiver.specs.Receiving.{Received, Receives, hits_of}
 use Rattle.psi_receiver.specs.Running.{IsNewReceiver, KeptSince, ReceiverState, Stage, next_of, state_of}
@@ -58,9 +58,9 @@ received known old new before after taken frames is talks read kept none done =
     (subst (λ (fs : List Frame). AreMarked new.core.deal.tag_length fs new.core.lists)
     (found.frames_are ∙ ap (λ (d : ReceiverDeal). stream_frames d found.count found.lists) (sym core.deal)) core.marks)
     shown.many shown.found shown.long in
-    let wire : wire_for (receiver_script deal placed) frames ≡ weave (own_stream deal placed) taken =
+    let wire : wire_for (receiver_script deal placed) frames ≡ wire_bytes (moves_heard deal placed found.count found.lists) =
     ap (wire_for (receiver_script deal placed)) found.frames_are
-    ∙ (wired_whole deal placed found.count found.lists (flat_map layout frames) is found.stream ∙ ap (weave (own_stream deal placed)) (sym found.stream.is ∙ sym read.bytes)) in
+    ∙ wired_whole deal placed found.count found.lists (flat_map layout frames) found.stream in
     record {
       count = found.count;
       lists = found.lists;

@@ -8,7 +8,7 @@ use Rattle.psi_spec.specs.Deals.{ReceiverDeal}
 use Rattle.psi_spec.specs.Frames.{Frame, layout, column_frame, sender_hello}
 use Rattle.psi_spec.specs.Meeting.{Placed}
 use Rattle.psi_spec.specs.Sessions.{dealt_masked}
-use Rattle.psi_spec.specs.Streams.{blocks_for, column_frames}
+use Rattle.psi_spec.specs.Streams.{layouts, blocks_for, column_frames}
 use Rattle.psi_spec.proofs.StreamSizes.{length-column_frame}
 use Rattle.psi_frames.specs.declared.expect.Expect.{Expect}
 use Rattle.psi_frames.specs.declared.expect.Expect.TheVariants as expect

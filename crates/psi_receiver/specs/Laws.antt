@@ -1,15 +1,14 @@
 -- What a receiver's script comes to: the streams that it takes, what it sends for them, and what stands on the wire.
-use Rattle.std.specs.Prelude.{◌≡◌, ◌≤◌, ℕ, List, [], ◌++◌, length, take, drop}
+use Rattle.std.specs.Prelude.{◌≡◌, ◌≤◌, ℕ, List, ◌++◌, length, take}
 use Rattle.psi_spec.specs.Limits.{limit_items, rows_for}
 use Rattle.psi_spec.specs.Deals.{ReceiverDeal, SenderDeal, ArePair, IsReceiverDeal}
-use Rattle.psi_spec.specs.Frames.{AreBytes}
+use Rattle.psi_spec.specs.Frames.{AreBytes, receiver_hello, sender_hello}
 use Rattle.psi_spec.specs.Meeting.{Placed}
-use Rattle.psi_spec.specs.Sessions.{weave}
+use Rattle.psi_spec.specs.Sessions.{Move, dealt_masked, moves_with, wire_bytes}
 use Rattle.psi_spec.specs.Streams.{IsSenderStream, dealt_sets, receiver_stream, sender_side, sender_stream}
 use Rattle.psi_spec.specs.TagLists.{tag_lists}
 use Rattle.psi_frames.specs.Dialogue.{Dialogue, good}
-use Rattle.psi_frames.specs.Expected.{frame_length}
-use Rattle.psi_frames.specs.Script.{Script, over, sends, awaits, by_front, dialogue_of}
+use Rattle.psi_frames.specs.Script.{dialogue_of, wire_of}
 use Rattle.psi_receiver.specs.Script.{receiver_script}
 
 -- a receiver's end of a session
@@ -25,24 +24,25 @@ IsStreamFor deal count lists bytes =
 abbrev pub own_stream : ReceiverDeal → List Placed → List ℕ
 own_stream deal placed = receiver_stream deal placed (dealt_sets deal (rows_for deal.stash (length placed)))
 
--- all that stands on the wire once these bytes of the peer were taken: what a script sends and what it takes, in order
-abbrev pub wire_of : Script → List ℕ → List ℕ
-wire_of over bytes = []
-wire_of (sends out rest) bytes = out ++ wire_of rest bytes
-wire_of (awaits e next) bytes =
-    by_front e bytes (λ why. []) []
-    (λ frame. take (frame_length e) bytes ++ wire_of (next frame) (drop (frame_length e) bytes))
+-- the moves of a session of a receiver with a sender that says this count and sends these lists
+abbrev pub moves_heard : ReceiverDeal → List Placed → ℕ → List (List (List ℕ)) → List Move
+moves_heard deal placed count lists =
+    moves_with (receiver_hello deal.id deal.session (length placed)) (sender_hello deal.id deal.session count)
+    (dealt_masked deal placed) lists
 
--- a sender's stream is taken whole, whatever follows it; the receiver's stream is sent for it, and both are woven
-pub record Hears (deal : ReceiverDeal) (placed : List Placed) (bytes : List ℕ) : Type 0 where
-  pub reads : (more : List ℕ) → (receiver_dialogue deal placed).reads_as (bytes ++ more) ≡ good bytes
-  pub sends : (receiver_dialogue deal placed).owes bytes ≡ own_stream deal placed
-  pub wire : wire_of (receiver_script deal placed) bytes ≡ weave (own_stream deal placed) bytes
+-- a sender's stream with a count and lists is taken whole, whatever follows it; the receiver's stream is sent for it, and
+-- on the wire stand the moves of both
+pub record Hears
+    (deal : ReceiverDeal) (placed : List Placed) (count : ℕ) (lists : List (List (List ℕ))) (bytes : List ℕ) : Type 0
+  where
+    pub reads : (more : List ℕ) → (receiver_dialogue deal placed).reads_as (bytes ++ more) ≡ good bytes
+    pub sends : (receiver_dialogue deal placed).owes bytes ≡ own_stream deal placed
+    pub wire : wire_of (receiver_script deal placed) bytes ≡ wire_bytes (moves_heard deal placed count lists)
 
 abbrev pub HearsStreams : Type 0
 HearsStreams =
     (deal : ReceiverDeal) (placed : List Placed) (count : ℕ) (lists : List (List (List ℕ))) (bytes : List ℕ)
-    → IsReceiverDeal deal → IsStreamFor deal count lists bytes → Hears deal placed bytes
+    → IsReceiverDeal deal → IsStreamFor deal count lists bytes → Hears deal placed count lists bytes
 
 -- and nothing else is taken whole
 abbrev pub HearsNothingElse : Type 0
@@ -57,9 +57,9 @@ abbrev pub HearsHonestSenders : Type 0
 HearsHonestSenders =
     (deal : ReceiverDeal) (placed : List Placed) (sender : SenderDeal) (count : ℕ) (sent ys : List (List ℕ))
     → IsReceiverDeal deal → ArePair deal sender → length ys ≤ limit_items
-    → IsStreamFor deal (length ys) (tag_lists sender.stash (sender_side sender count sent) ys)
-    (sender_stream sender count sent ys)
-    × Hears deal placed (sender_stream sender count sent ys)
+    → let lists = tag_lists sender.stash (sender_side sender count sent) ys in
+    IsStreamFor deal (length ys) lists (sender_stream sender count sent ys)
+    × Hears deal placed (length ys) lists (sender_stream sender count sent ys)
 
 -- whatever bytes of the peer were taken, and however much of what is owed for them was sent, it is a front of the
 -- receiver's stream

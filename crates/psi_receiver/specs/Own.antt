@@ -85,12 +85,16 @@ abbrev pub IsMarkedBy : List (List ℕ) → Marked → Type 0
 IsMarkedBy tags m =
     (i : ℕ) → i < length m.tags → slice_index_or m.hits i false ≡ is_among tags (slice_index_or m.tags i [])
 
+-- what frames have of a list: of each of its blocks what `of` makes of the block's bytes
+abbrev pub in_list : {A : Type 0} → (List ℕ → List A) → ℕ → List Frame → List A
+in_list of list [] = []
+in_list of list (tags_frame of_list block bytes ∷ frames) =
+    (if of_list == list then of bytes else []) ++ in_list of list frames
+in_list of list (frame ∷ frames) = in_list of list frames
+
 -- the tags that frames have of a list, each padded
 abbrev pub tags_for : ℕ → ℕ → List Frame → List (List ℕ)
-tags_for width list [] = []
-tags_for width list (tags_frame of_list block bytes ∷ frames) =
-    (if of_list == list then padded_tags width bytes else []) ++ tags_for width list frames
-tags_for width list (frame ∷ frames) = tags_for width list frames
+tags_for width list frames = in_list (padded_tags width) list frames
 
 -- the own tags of each list are marked by the tags that frames have of it
 abbrev pub AreMarked : ℕ → List Frame → List Marked → Type 0

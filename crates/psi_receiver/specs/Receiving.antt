@@ -4,11 +4,11 @@ use Rattle.psi_spec.specs.Limits.{bins_for, rows_for}
 use Rattle.psi_spec.specs.Deals.{ReceiverDeal, zero_columns}
 use Rattle.psi_spec.specs.Hits.{ReceiverSide, is_hit}
 use Rattle.psi_spec.specs.Meeting.{Placed}
-use Rattle.psi_spec.specs.Sessions.{weave}
+use Rattle.psi_spec.specs.Sessions.{wire_bytes}
 use Rattle.psi_base.specs.Outside.{Known, Outside}
 use Rattle.psi_frames.specs.Dialogue.{Talks}
 use Rattle.psi_frames.specs.declared.turns.EndFault.{EndFault}
-use Rattle.psi_receiver.specs.Laws.{IsStreamFor, own_stream, receiver_dialogue}
+use Rattle.psi_receiver.specs.Laws.{IsStreamFor, moves_heard, receiver_dialogue}
 
 -- what placed items are looked up with
 abbrev pub finder : ReceiverDeal → List Placed → ReceiverSide
@@ -25,7 +25,7 @@ unfoldable pub hits_of : ReceiverDeal → List Placed → List (List (List ℕ))
 hits_of deal placed lists = map (is_hit (finder deal placed) lists) placed
 
 -- a sender's stream was taken, the receiver's stream was sent for it, the items that are hit in its lists are shown,
--- and the record goes on with both streams as they stand on the wire
+-- and the record goes on with the moves of both ends as they stand on the wire
 pub record Received (known : Known) (deal : ReceiverDeal) (placed : List Placed) (before : Outside) (log : List ℕ)
     (shown : List Bool) (log' : List ℕ) (after : Outside) : Type 0 where
   pub count : ℕ
@@ -34,7 +34,7 @@ pub record Received (known : Known) (deal : ReceiverDeal) (placed : List Placed)
   pub stream : IsStreamFor deal count lists taken
   pub talked : Talks known (receiver_dialogue deal placed) before (Ok taken) after
   pub hit : shown ≡ hits_of deal placed lists
-  pub logged : log' ≡ log ++ weave (own_stream deal placed) taken
+  pub logged : log' ≡ log ++ wire_bytes (moves_heard deal placed count lists)
 
 -- what a session may answer and leave: it is whole, or it ended early
 abbrev pub Receives : Known → ReceiverDeal → List Placed → Outside → List ℕ → Result (Unit {0}) EndFault → List Bool

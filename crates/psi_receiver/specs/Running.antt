@@ -12,7 +12,7 @@ use Rattle.psi_spec.specs.Matrices.{IsMatrix}
 use Rattle.psi_spec.specs.Meeting.{Placed, placed_of}
 use Rattle.psi_spec.specs.Placement.{Slot, IsPlacementOf}
 use Rattle.psi_spec.specs.Sessions.{dealt_masked}
-use Rattle.psi_spec.specs.Streams.{blocks_for, column_frames}
+use Rattle.psi_spec.specs.Streams.{layouts, blocks_for, column_frames}
 use Rattle.psi_frames.specs.Script.{Script, EndState, awaits, over}
 use Rattle.psi_frames.specs.declared.expect.Expect.TheVariants as expect
 use Rattle.psi_receiver.specs.declared.memory.Memory.{Memory}

@@ -4,7 +4,7 @@ use Rattle.psi_spec.specs.Deals.{ReceiverDeal}
 use Rattle.psi_spec.specs.Formulas.{padded}
 use Rattle.psi_spec.specs.Frames.{Frame, layout, receiver_hello, sender_hello, tags_frame, done_frame, tags_of}
 use Rattle.psi_spec.specs.Meeting.{Placed}
-use Rattle.psi_spec.specs.Streams.{block_tags, blocks_for, column_frames}
+use Rattle.psi_spec.specs.Streams.{layouts, block_tags, blocks_for, column_frames}
 use Rattle.psi_spec.specs.Sessions.{dealt_masked}
 use Rattle.psi_frames.specs.Script.{Script, over, sends, awaits}
 use Rattle.psi_frames.specs.declared.expect.Expect.TheVariants as expect

@@ -38,7 +38,7 @@ impl<'a> Model for ReceiverCore<'a> {
 impl<'a> ReceiverCore<'a> {
     ghost use Rattle.psi_spec.specs.Columns.{column_bytes};
     ghost use Rattle.psi_spec.specs.Sessions.{dealt_masked};
-    ghost use Rattle.psi_spec.specs.Streams.{column_frames};
+    ghost use Rattle.psi_spec.specs.Streams.{layouts, column_frames};
     ghost use Rattle.psi_receiver.specs.Running.{IsNewReceiver, KeptSince, TellsShown};
 
     /// The end of items in their slots, whose hello is pending. `digests` are those of the items, in their order, and

@@ -44,7 +44,7 @@ impl<'a> Model for Session<'a> {
 impl<'a> Session<'a> {
     ghost use Rattle.psi_spec.specs.Columns.{column_bytes};
     ghost use Rattle.psi_spec.specs.Sessions.{dealt_masked};
-    ghost use Rattle.psi_spec.specs.Streams.{column_frames};
+    ghost use Rattle.psi_spec.specs.Streams.{layouts, column_frames};
     ghost use Rattle.psi_receiver.specs.Running.{IsNewReceiver, TellsShown, state_of};
 
     /// The session of items in their slots: its hello is to be sent. It is refused only where memory is wanting.

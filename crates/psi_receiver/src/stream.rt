@@ -5,7 +5,7 @@ ghost use Rattle.psi_spec.specs.ColumnSets.{masked_columns};
 ghost use Rattle.psi_spec.specs.Frames.{layout};
 ghost use Rattle.psi_spec.specs.Limits.{rows_for};
 ghost use Rattle.psi_spec.specs.Matrices.{IsCleanMatrix};
-ghost use Rattle.psi_spec.specs.Streams.{column_frames, columns_stream};
+ghost use Rattle.psi_spec.specs.Streams.{layouts, column_frames, columns_stream};
 ghost use Rattle.psi_frames.specs.Expected.{seen};
 
 use psi_base::NoMemory;

@@ -1,4 +1,5 @@
 -- The frames that a sender awaits are those of a receiver's stream.
+use Rattle.std.proofs.lemmas.Grind.{flat_map-append}
 use Rattle.std.proofs.Common.{◌≡◌, ◌<◌, ◌≤◌, ◌+◌, ◌^◌, ◌∙◌, ℕ, suc, List, [], ◌∷◌, ◌++◌, length, refl, sym, ap, ap₂, subst, arith, append_assoc, length-append}
 use Rattle.std.specs.Int.{w16, w32, to_be_bytes}
 use Rattle.std.specs.List.{AllByRecursion, flat_map}
@@ -10,7 +11,7 @@ use Rattle.psi_spec.specs.Matrices.{IsColumn}
 use Rattle.psi_spec.specs.ColumnSets.{opened_column, opened_from}
 use Rattle.psi_spec.specs.Deals.{SenderDeal}
 use Rattle.psi_spec.specs.Frames.{AreBytes, Frame, layout, receiver_hello, sender_hello, column_frame, tags_frame, done_frame}
-use Rattle.psi_spec.specs.Streams.{column_frames, sender_answer}
+use Rattle.psi_spec.specs.Streams.{layouts, column_frames, sender_answer}
 use Rattle.psi_frames.specs.declared.expect.Expect.TheVariants as expect
 use Rattle.psi_frames.specs.Expected.{IsValid}
 use Rattle.psi_frames.specs.Script.{AreAwaited, owed_for}
@@ -22,14 +23,12 @@ use Rattle.psi_sender.specs.Script.{bytes_in, opens_columns}
 
 -- the frames of columns from number c on, and of the end
 abbrev pub column_list : ℕ → List (List ℕ) → List Frame
-column_list c [] = done_frame ∷ []
-column_list c (u ∷ us) = column_frame c u ∷ column_list (c + 1) us
+column_list c us = column_frames c us ++ done_frame ∷ []
 
-pub column_list-bytes : (c : ℕ) (us : List (List ℕ)) → flat_map layout (column_list c us) ≡ layouts (column_frames c us) ++ layout done_frame
-column_list-bytes c [] = append-nil (layout done_frame)
-column_list-bytes c (u ∷ us) =
-    ap (λ (xs : List ℕ). layout (column_frame c u) ++ xs) (column_list-bytes (c + 1) us)
-    ∙ sym (append_assoc (layout (column_frame c u)) (layouts (column_frames (c + 1) us)) (layout done_frame))
+pub column_list-bytes : (c : ℕ) (us : List (List ℕ)) → layouts (column_list c us) ≡ layouts (column_frames c us) ++ layout done_frame
+column_list-bytes c us =
+    flat_map-append layout (column_frames c us) (done_frame ∷ [])
+    ∙ ap (λ (xs : List ℕ). layouts (column_frames c us) ++ xs) (append-nil (layout done_frame))
 
 -- ---- bytes of parts
 

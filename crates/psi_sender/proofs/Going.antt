@@ -1,10 +1,11 @@
 -- How a session goes on: what is left of an answer after a frame, and after a column.
+use Rattle.std.proofs.lemmas.Grind.{flat_map-append}
 use Rattle.std.proofs.Common.{◌≡◌, ◌+◌, ◌-◌, ◌<◌, ◌≤◌, ◌==◌, ◌∙◌, ℕ, zero, suc, Bool, true, false, cond, nat_lt, List, [], ◌∷◌, ◌++◌, length, map, take, drop, get_or, slice_set, flat_map, Option, Some, None, refl, sym, ap, ap₂, subst, arith}
 use Rattle.std.specs.List.{range_with_len}
 use Rattle.std.proofs.lemmas.Bool.{ltb-true, ltb-false, eqb-true, eqb-false, le-ltb}
 use Rattle.std.proofs.lemmas.List.{append-nil, append_assoc, length-map, length-take-le, drop_more, drop_all, take_more_set, drop-set-lt, take_all, length-set, length-drop}
 use Rattle.psi_spec.specs.TagLists.{SenderSide, tag_in_list, tag_list, tag_lists}
-use Rattle.psi_spec.specs.Streams.{blocks_for, block_frame, list_frames, lists_frames, sender_answer}
+use Rattle.psi_spec.specs.Streams.{layouts, blocks_for, block_frame, list_frames, lists_frames, sender_answer}
 use Rattle.psi_spec.specs.Deals.{SenderDeal, sender_columns}
 use Rattle.psi_spec.proofs.Rising.{length-rising}
 use Rattle.psi_spec.proofs.StreamSteps.{list_frames_are}
@@ -63,11 +64,17 @@ module _ (stash : ℕ) (s : SenderSide) (ys : List (List ℕ)) where
       let same : blocks_for (length (tags list)) ≡ blocks - 0 = ap blocks_for (length-tag_list s ys list) ∙ omega arith in
       list_frames_are list (tags list) ∙ ap (λ (n : ℕ). layouts (map (block_frame list (tags list)) (range_with_len 0 n))) same
 
+  one_list : (list n : ℕ) → lists_from list (suc n) ≡ layouts (list_frames list (tags list)) ++ lists_from (list + 1) n
+  one_list list n =
+      flat_map-append layout (list_frames list (tags list)) (lists_frames (list + 1) (map (tag_list s ys) (range_with_len (list + 1) n)))
+
   begins_list : (list : ℕ) → list < 3 + stash → lists_from list (3 + stash - list) ≡ answer_from stash s ys list 0
   unfolding answer_from
   begins_list list l =
       let more : 3 + stash - list ≡ suc (2 + stash - list) = omega arith in
-      ap (lists_from list) more ∙ ap (λ (front : List ℕ). front ++ lists_from (list + 1) (2 + stash - list)) (whole_list list)
+      ap (lists_from list) more
+      ∙ one_list list (2 + stash - list)
+      ∙ ap (λ (front : List ℕ). front ++ lists_from (list + 1) (2 + stash - list)) (whole_list list)
 
   -- what is left once a frame was put
   pub after_frame : (list block : ℕ) → list < 3 + stash → block < blocks
@@ -93,17 +100,19 @@ module _ (stash : ℕ) (s : SenderSide) (ys : List (List ℕ)) where
           ≡ layout (block_frame list (tags list) block) ++ rest_in stash s ys (cond b (phase.Tags list (block + 1)) (cond (nat_lt (list + 1) (3 + stash)) (phase.Tags (list + 1) 0) phase.Done))
       by_block true e =
           ap (λ (front : List ℕ). front ++ lists_from (list + 1) (2 + stash - list)) (one_block list block m)
-          ∙ append_assoc (block_frame list (tags list) block) (blocks_from list (block + 1)) (lists_from (list + 1) (2 + stash - list))
+          ∙ append_assoc (layout (block_frame list (tags list) block)) (blocks_from list (block + 1)) (lists_from (list + 1) (2 + stash - list))
       by_block false e =
           let last = no_block list (block + 1) (ltb-false (block + 1) blocks e) in
           ap (λ (front : List ℕ). front ++ lists_from (list + 1) (2 + stash - list))
-          (one_block list block m ∙ (ap (λ (rest : List ℕ). layout (block_frame list (tags list) block) ++ rest) last ∙ append-nil (block_frame list (tags list) block)))
+          (one_block list block m ∙ (ap (λ (rest : List ℕ). layout (block_frame list (tags list) block) ++ rest) last ∙ append-nil (layout (block_frame list (tags list) block))))
           ∙ ap (λ (rest : List ℕ). layout (block_frame list (tags list) block) ++ rest) (by_list (nat_lt (list + 1) (3 + stash)) refl)
 
   no_lists : (list n : ℕ) → blocks ≡ 0 → lists_from list n ≡ []
   no_lists list zero none = refl
   no_lists list (suc n) none =
-      ap (λ (front : List ℕ). front ++ lists_from (list + 1) n) (whole_list list ∙ no_block list 0 (omega arith)) ∙ no_lists (list + 1) n none
+      one_list list n
+      ∙ ap (λ (front : List ℕ). front ++ lists_from (list + 1) n) (whole_list list ∙ no_block list 0 (omega arith))
+      ∙ no_lists (list + 1) n none
 
   -- what is owed after the last column
   pub whole_answer : layouts (lists_frames 0 (tag_lists stash s ys)) ≡ rest_in stash s ys (cond (nat_lt 0 (length ys)) (phase.Tags 0 0) phase.Done)
@@ -139,8 +148,8 @@ none_before_tags stash s ys list block [] script l m =
     begins [] rest some = absurd (some refl)
     begins (x ∷ out) rest some = due_some x (out ++ rest) script
 
-    behind_frame : (frames : List (List ℕ)) (rest : List ℕ) → None ≡ due_after (block_frame list frames block ++ rest) script
-    behind_frame frames rest = begins (block_frame list frames block) rest (λ e. omega (arith, e))
+    behind_frame : (frames : List (List ℕ)) (rest : List ℕ) → None ≡ due_after (layout (block_frame list frames block) ++ rest) script
+    behind_frame frames rest = begins (layout (block_frame list frames block)) rest (λ e. omega (arith, e))
 none_before_tags stash s ys list block (x ∷ xs) script l m = due_some x (xs ++ answer_from stash s ys list block) script
 
 -- ---- columns

@@ -6,7 +6,7 @@ use Rattle.std.proofs.lemmas.List.{append-nil, take_at}
 use Rattle.psi_spec.specs.Deals.{SenderDeal, IsSenderDeal, sender_columns}
 use Rattle.psi_spec.specs.Frames.{AreBytes, Frame, layout, receiver_hello, sender_hello, done_frame}
 use Rattle.psi_spec.specs.Limits.{rows_for}
-use Rattle.psi_spec.specs.Streams.{column_frames, columns_stream, sender_stream}
+use Rattle.psi_spec.specs.Streams.{layouts, column_frames, columns_stream, sender_stream}
 use Rattle.psi_spec.specs.ColumnSets.{opened_column}
 use Rattle.psi_spec.specs.Bits.{bit_of}
 use Rattle.psi_spec.proofs.CodeBytes.{AreBytes-append}

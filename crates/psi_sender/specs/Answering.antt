@@ -5,7 +5,7 @@ use Rattle.std.specs.Simd.Lanes.{zip2}
 use Rattle.psi_spec.specs.Bits.{xor, both}
 use Rattle.psi_spec.specs.Formulas.{code, padded_tag}
 use Rattle.psi_spec.specs.Deals.{SenderDeal}
-use Rattle.psi_spec.specs.Streams.{block_frame, blocks_for, lists_frames}
+use Rattle.psi_spec.specs.Streams.{layouts, block_frame, blocks_for, lists_frames}
 use Rattle.psi_spec.specs.TagLists.{SenderSide, tag_list}
 use Rattle.psi_sender.specs.declared.hashes.Hashes.{Hashes}
 

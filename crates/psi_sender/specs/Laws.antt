@@ -6,7 +6,7 @@ use Rattle.psi_spec.specs.Limits.{limit_items, rows_for}
 use Rattle.psi_spec.specs.Matrices.{IsColumnSet}
 use Rattle.psi_spec.specs.Meeting.{Placed}
 use Rattle.psi_spec.specs.Sessions.{dealt_masked}
-use Rattle.psi_spec.specs.Streams.{IsReceiverStream, column_frames, dealt_sets, receiver_stream, sender_stream}
+use Rattle.psi_spec.specs.Streams.{layouts, IsReceiverStream, column_frames, dealt_sets, receiver_stream, sender_stream}
 use Rattle.psi_frames.specs.Dialogue.{Dialogue, good}
 use Rattle.psi_frames.specs.Script.{dialogue_of}
 use Rattle.psi_sender.specs.Script.{sender_script}

@@ -5,6 +5,7 @@ ghost use Rattle.std.specs.Ordering.{nat_cmp};
 ghost use Rattle.std.specs.Cmp.Lexicographic.{slice_cmp};
 ghost use Rattle.std.specs.Simd.Lanes.{zip2};
 ghost use Rattle.psi_spec.specs.Rising.{rising};
+ghost use Rattle.psi_spec.specs.Frames.{layout};
 ghost use Rattle.psi_spec.specs.Streams.{block_frame, block_tags};
 ghost use Rattle.psi_frames.specs.Boxes.{with_added};
 ghost use Rattle.psi_sender.specs.Answering.{AreFor, flipped_word, word_tag, bin_list, made_list};
@@ -235,7 +236,8 @@ pub(crate) fn put_block(
     requires block { block_tags * block ≤ length tags.now }
     requires room { block_tags * width ≤ length room.old }
     requires spare { 10 + block_tags * width ≤ outbox.old.spare }
-    ensures { outbox.new ≡ with_added (block_frame list (map (λ tag. take width tag) tags.now) block) outbox.old }
+    ensures { outbox.new ≡
+        with_added (layout (block_frame list (map (λ tag. take width tag) tags.now) block)) outbox.old }
 {
     let start = BLOCK_TAGS as usize * block as usize;
     let end = tags.len().min(start + BLOCK_TAGS as usize);

@@ -5,6 +5,7 @@ ghost use Rattle.psi_spec.specs.Columns.{column_bytes, row_of};
 ghost use Rattle.psi_spec.specs.ColumnSets.{opened_column};
 ghost use Rattle.psi_spec.specs.Limits.{limit_items};
 ghost use Rattle.psi_spec.specs.Matrices.{IsClean, column_of, with_column};
+ghost use Rattle.psi_spec.specs.Frames.{layout};
 ghost use Rattle.psi_spec.specs.Streams.{block_frame, blocks_for};
 ghost use Rattle.psi_spec.specs.TagLists.{tag_list};
 ghost use Rattle.psi_frames.specs.Boxes.{with_added};
@@ -106,7 +107,7 @@ pub(crate) fn put_tags(
     ensures made { map (λ tag. take deal.now.tag_length tag) memory.new.tags.items
         ≡ tag_list (side_over deal.now count memory.old.columns.columns) items.now list }
     ensures outbox { memory.new.outbox ≡ with_added
-        (block_frame list (tag_list (side_over deal.now count memory.old.columns.columns) items.now list) block)
+        (layout (block_frame list (tag_list (side_over deal.now count memory.old.columns.columns) items.now list) block))
         memory.old.outbox }
     ensures phase { result ≡ next_phase list block (3 + deal.now.stash) (blocks_for (length items.now)) }
 {

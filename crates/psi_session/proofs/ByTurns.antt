@@ -6,7 +6,8 @@ use Rattle.psi_spec.specs.Frames.{Frame, layout}
 use Rattle.psi_frames.specs.declared.expect.Expect.{Expect}
 use Rattle.psi_frames.specs.Expected.{IsValid}
 use Rattle.psi_frames.specs.Script.{Script, awaits, goes_on, over, sends}
-use Rattle.psi_session.specs.Playing.{Move, Plays, by_first, by_second, played_bytes, taken_by_first}
+use Rattle.psi_spec.specs.Sessions.{Move, by_receiver, by_sender, of_sender, wire_bytes}
+use Rattle.psi_session.specs.Playing.{Plays}
 
 -- a script takes these frames with nothing sent between them, and goes on so
 abbrev pub Takes : List Frame → Script → Script → Type 0
@@ -19,7 +20,7 @@ Takes (f ∷ frames) (awaits e next) rest = IsValid e f × Takes frames (next f)
 pub first_step : (f : Frame) (moves : List Move) (owes out : List ℕ) (next : Script) (new fresh : Bool) (e : Expect) (go : Frame → Script)
     → owes ≡ layout f ++ out → IsValid e f
     → Plays moves (record { owes = out; next = next; is_new = new }) (goes_on false (go f))
-    → Plays (by_first f ∷ moves) (record { owes = owes; next = next; is_new = new }) (goes_on fresh (awaits e go))
+    → Plays (by_receiver f ∷ moves) (record { owes = owes; next = next; is_new = new }) (goes_on fresh (awaits e go))
 first_step f moves owes out next new fresh e go is valid later = (
   record { owes = ap (take (length (layout f))) is ∙ take_at (layout f) out (length (layout f)) refl; due = valid },
   subst (λ (xs : List ℕ). Plays moves (record { owes = xs; next = next; is_new = new }) (goes_on false (go f)))
@@ -30,7 +31,7 @@ first_step f moves owes out next new fresh e go is valid later = (
 pub second_step : (f : Frame) (moves : List Move) (owes out : List ℕ) (next : Script) (new fresh : Bool) (e : Expect) (go : Frame → Script)
     → owes ≡ layout f ++ out → IsValid e f
     → Plays moves (goes_on false (go f)) (record { owes = out; next = next; is_new = new })
-    → Plays (by_second f ∷ moves) (goes_on fresh (awaits e go)) (record { owes = owes; next = next; is_new = new })
+    → Plays (by_sender f ∷ moves) (goes_on fresh (awaits e go)) (record { owes = owes; next = next; is_new = new })
 second_step f moves owes out next new fresh e go is valid later = (
   record { owes = ap (take (length (layout f))) is ∙ take_at (layout f) out (length (layout f)) refl; due = valid },
   subst (λ (xs : List ℕ). Plays moves (goes_on false (go f)) (record { owes = xs; next = next; is_new = new }))
@@ -41,7 +42,7 @@ second_step f moves owes out next new fresh e go is valid later = (
 pub first_sends : (frames : List Frame) (moves : List Move) (owes out : List ℕ) (next : Script) (new : Bool) (script rest : Script)
     → owes ≡ flat_map layout frames ++ out → Takes frames script rest
     → Plays moves (record { owes = out; next = next; is_new = new }) (goes_on false rest)
-    → Plays (map by_first frames ++ moves) (record { owes = owes; next = next; is_new = new }) (goes_on false script)
+    → Plays (map by_receiver frames ++ moves) (record { owes = owes; next = next; is_new = new }) (goes_on false script)
 first_sends [] moves owes out next new script rest is takes later =
     subst (λ (s : Script). Plays moves (record { owes = owes; next = next; is_new = new }) (goes_on false s)) (sym takes)
     (subst (λ (xs : List ℕ). Plays moves (record { owes = xs; next = next; is_new = new }) (goes_on false rest)) (sym is) later)
@@ -49,14 +50,14 @@ first_sends (f ∷ frames) moves owes out next new over rest is takes later = ab
 first_sends (f ∷ frames) moves owes out next new (sends gone script) rest is takes later = absurd takes
 first_sends (f ∷ frames) moves owes out next new (awaits e go) rest is takes later =
     let more : List ℕ = flat_map layout frames ++ out in
-    first_step f (map by_first frames ++ moves) owes more next new false e go (is ∙ append_assoc (layout f) (flat_map layout frames) out) takes.0
+    first_step f (map by_receiver frames ++ moves) owes more next new false e go (is ∙ append_assoc (layout f) (flat_map layout frames) out) takes.0
     (first_sends frames moves more out next new (go f) rest refl takes.1 later)
 
 -- the second end sends them all
 pub second_sends : (frames : List Frame) (moves : List Move) (owes out : List ℕ) (next : Script) (new : Bool) (script rest : Script)
     → owes ≡ flat_map layout frames ++ out → Takes frames script rest
     → Plays moves (goes_on false rest) (record { owes = out; next = next; is_new = new })
-    → Plays (map by_second frames ++ moves) (goes_on false script) (record { owes = owes; next = next; is_new = new })
+    → Plays (map by_sender frames ++ moves) (goes_on false script) (record { owes = owes; next = next; is_new = new })
 second_sends [] moves owes out next new script rest is takes later =
     subst (λ (s : Script). Plays moves (goes_on false s) (record { owes = owes; next = next; is_new = new })) (sym takes)
     (subst (λ (xs : List ℕ). Plays moves (goes_on false rest) (record { owes = xs; next = next; is_new = new })) (sym is) later)
@@ -64,25 +65,25 @@ second_sends (f ∷ frames) moves owes out next new over rest is takes later = a
 second_sends (f ∷ frames) moves owes out next new (sends gone script) rest is takes later = absurd takes
 second_sends (f ∷ frames) moves owes out next new (awaits e go) rest is takes later =
     let more : List ℕ = flat_map layout frames ++ out in
-    second_step f (map by_second frames ++ moves) owes more next new false e go (is ∙ append_assoc (layout f) (flat_map layout frames) out) takes.0
+    second_step f (map by_sender frames ++ moves) owes more next new false e go (is ∙ append_assoc (layout f) (flat_map layout frames) out) takes.0
     (second_sends frames moves more out next new (go f) rest refl takes.1 later)
 
 -- ---- the bytes and the frames of such moves
 
-pub bytes_of_first : (frames : List Frame) (moves : List Move) → played_bytes (map by_first frames ++ moves) ≡ flat_map layout frames ++ played_bytes moves
+pub bytes_of_first : (frames : List Frame) (moves : List Move) → wire_bytes (map by_receiver frames ++ moves) ≡ flat_map layout frames ++ wire_bytes moves
 bytes_of_first [] moves = refl
 bytes_of_first (f ∷ frames) moves =
-    ap (λ (xs : List ℕ). layout f ++ xs) (bytes_of_first frames moves) ∙ sym (append_assoc (layout f) (flat_map layout frames) (played_bytes moves))
+    ap (λ (xs : List ℕ). layout f ++ xs) (bytes_of_first frames moves) ∙ sym (append_assoc (layout f) (flat_map layout frames) (wire_bytes moves))
 
-pub bytes_of_second : (frames : List Frame) (moves : List Move) → played_bytes (map by_second frames ++ moves) ≡ flat_map layout frames ++ played_bytes moves
+pub bytes_of_second : (frames : List Frame) (moves : List Move) → wire_bytes (map by_sender frames ++ moves) ≡ flat_map layout frames ++ wire_bytes moves
 bytes_of_second [] moves = refl
 bytes_of_second (f ∷ frames) moves =
-    ap (λ (xs : List ℕ). layout f ++ xs) (bytes_of_second frames moves) ∙ sym (append_assoc (layout f) (flat_map layout frames) (played_bytes moves))
+    ap (λ (xs : List ℕ). layout f ++ xs) (bytes_of_second frames moves) ∙ sym (append_assoc (layout f) (flat_map layout frames) (wire_bytes moves))
 
-pub taken_of_first : (frames : List Frame) (moves : List Move) → taken_by_first (map by_first frames ++ moves) ≡ taken_by_first moves
+pub taken_of_first : (frames : List Frame) (moves : List Move) → of_sender (map by_receiver frames ++ moves) ≡ of_sender moves
 taken_of_first [] moves = refl
 taken_of_first (f ∷ frames) moves = taken_of_first frames moves
 
-pub taken_of_second : (frames : List Frame) (moves : List Move) → taken_by_first (map by_second frames ++ moves) ≡ frames ++ taken_by_first moves
+pub taken_of_second : (frames : List Frame) (moves : List Move) → of_sender (map by_sender frames ++ moves) ≡ frames ++ of_sender moves
 taken_of_second [] moves = refl
 taken_of_second (f ∷ frames) moves = ap (λ (fs : List Frame). f ∷ fs) (taken_of_second frames moves)

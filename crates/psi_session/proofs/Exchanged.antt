@@ -19,7 +19,8 @@ use Rattle.psi_receiver.proofs.Received.{kept_new}
 use Rattle.psi_sender.specs.Running.{Running, SenderState, state_in}
 use Rattle.psi_sender.specs.Running as sending
 use Rattle.psi_sender.proofs.Within.{within_script}
-use Rattle.psi_session.specs.Playing.{AwaitsFew, CanPlay, IsDone, Move, Plays, played_bytes, taken_by_first}
+use Rattle.psi_spec.specs.Sessions.{Move, of_sender, wire_bytes}
+use Rattle.psi_session.specs.Playing.{AwaitsFew, CanPlay, IsDone, Plays}
 use Rattle.psi_session.specs.Transcripts.{lists_for}
 use Rattle.psi_session.proofs.OnlyMoves.{only_moves}
 use Rattle.psi_session.proofs.WholeSession.{can_play, each_list, session_moves, session_passes, session_taken}
@@ -59,15 +60,15 @@ module _ (receiver : ReceiverState) (sender : SenderState) (new : IsNewReceiver 
   moves_are moves plays = only_moves moves their_moves (receiving.state_of receiver) (sending.state_of sender) plays (can_play receiver sender new none is is' pair few few')
 
   -- so the bytes of the session pass
-  pub bytes_are : (moves : List Move) → Plays moves (receiving.state_of receiver) (sending.state_of sender) → played_bytes moves ≡ session_bytes receiver.deal sender.deal receiver.placed sender.items
-  bytes_are moves plays = ap played_bytes (moves_are moves plays) ∙ session_passes receiver.deal sender.deal receiver.placed sender.items is.id is'.id
+  pub bytes_are : (moves : List Move) → Plays moves (receiving.state_of receiver) (sending.state_of sender) → wire_bytes moves ≡ session_bytes receiver.deal sender.deal receiver.placed sender.items
+  bytes_are moves plays = ap wire_bytes (moves_are moves plays) ∙ session_passes receiver.deal sender.deal receiver.placed sender.items is.id is'.id
 
   -- and the receiver shows the items that are hit in the sender's lists
   pub hits_are : (after : ReceiverState) (moves : List Move) → Plays moves (receiving.state_of receiver) (sending.state_of sender)
-      → KeepsOn (λ first frames wire. KeptSince first receiver frames) (λ first frames wire. KeptSince first after frames) (taken_by_first moves) (played_bytes moves)
+      → KeepsOn (λ first frames wire. KeptSince first receiver frames) (λ first frames wire. KeptSince first after frames) (of_sender moves) (wire_bytes moves)
       → IsDone (receiving.state_of after) → after.shown ≡ hits_of receiver.deal receiver.placed own_lists
   hits_are after moves plays keeps done =
-      let taken : List Frame = taken_by_first moves in
+      let taken : List Frame = of_sender moves in
       let kept : KeptSince receiver after taken = keeps receiver [] [] (kept_new receiver new) in
       let deal : ReceiverDeal = after.deal in
       let count : ℕ = length sender.items in
@@ -75,7 +76,7 @@ module _ (receiver : ReceiverState) (sender : SenderState) (new : IsNewReceiver 
       let hello : sender_hello sender.deal.id sender.deal.session count ≡ sender_hello deal.id deal.session count =
       ap₂ (λ (id : List ℕ) (session : ℕ). sender_hello id session count) (sym pair.id) (sym pair.session) ∙ ap (λ (d : ReceiverDeal). sender_hello d.id d.session count) (sym kept.deal) in
       let frames : taken ≡ sender_hello deal.id deal.session count ∷ lists_list 0 own_lists =
-      ap taken_by_first (moves_are moves plays) ∙ session_taken receiver.deal sender.deal receiver.placed sender.items
+      ap of_sender (moves_are moves plays) ∙ session_taken receiver.deal sender.deal receiver.placed sender.items
       ∙ ap (λ (f : Frame). f ∷ lists_list 0 own_lists) hello in
       shown_are_hits deal after.placed count own_lists after.lists after.shown
       (subst IsReceiverDeal (sym kept.deal) is) found.places

@@ -4,7 +4,8 @@ use Rattle.psi_spec.specs.Frames.{Frame, layout, receiver_hello, sender_hello, c
 use Rattle.psi_spec.proofs.Frames.{same_frame}
 use Rattle.psi_frames.specs.declared.expect.Expect.{Expect}
 use Rattle.psi_frames.specs.Script.{EndState, MayCome, Script, after_taking, awaits, due_after, due_frame, over, sends}
-use Rattle.psi_session.specs.Playing.{Move, Plays, after_frame_sent, by_first, by_second}
+use Rattle.psi_spec.specs.Sessions.{Move, by_receiver, by_sender}
+use Rattle.psi_session.specs.Playing.{Plays, after_frame_sent}
 
 -- the bytes of a frame are none of no bytes
 some_bytes : (f : Frame) → take (length (layout f)) [] ≡ layout f → ⊥
@@ -35,21 +36,21 @@ one_frame (Some e) f g owes may may' front front' =
 -- moves that both ends make until they are done are the only ones
 pub only_moves : (moves others : List Move) (first second : EndState) → Plays moves first second → Plays others first second → moves ≡ others
 only_moves [] [] first second p q = refl
-only_moves [] (by_first g ∷ others) first second p q = absurd (some_owed g first.owes q.0.owes p.0.owes)
-only_moves [] (by_second g ∷ others) first second p q = absurd (some_owed g second.owes q.0.owes p.1.owes)
-only_moves (by_first f ∷ moves) [] first second p q = absurd (some_owed f first.owes p.0.owes q.0.owes)
-only_moves (by_second f ∷ moves) [] first second p q = absurd (some_owed f second.owes p.0.owes q.1.owes)
-only_moves (by_first f ∷ moves) (by_second g ∷ others) first second p q =
+only_moves [] (by_receiver g ∷ others) first second p q = absurd (some_owed g first.owes q.0.owes p.0.owes)
+only_moves [] (by_sender g ∷ others) first second p q = absurd (some_owed g second.owes q.0.owes p.1.owes)
+only_moves (by_receiver f ∷ moves) [] first second p q = absurd (some_owed f first.owes p.0.owes q.0.owes)
+only_moves (by_sender f ∷ moves) [] first second p q = absurd (some_owed f second.owes p.0.owes q.1.owes)
+only_moves (by_receiver f ∷ moves) (by_sender g ∷ others) first second p q =
     absurd (some_owed f first.owes p.0.owes (none_owed first.owes first.next g q.0.due))
-only_moves (by_second f ∷ moves) (by_first g ∷ others) first second p q =
+only_moves (by_sender f ∷ moves) (by_receiver g ∷ others) first second p q =
     absurd (some_owed f second.owes p.0.owes (none_owed second.owes second.next g q.0.due))
-only_moves (by_first f ∷ moves) (by_first g ∷ others) first second p q =
+only_moves (by_receiver f ∷ moves) (by_receiver g ∷ others) first second p q =
     let same : f ≡ g = one_frame (due_frame second) f g first.owes p.0.due q.0.due p.0.owes q.0.owes in
-    ap₂ (λ (h : Frame) (ms : List Move). by_first h ∷ ms) same
+    ap₂ (λ (h : Frame) (ms : List Move). by_receiver h ∷ ms) same
     (only_moves moves others (after_frame_sent f first) (after_taking f second) p.1
     (subst (λ (h : Frame). Plays others (after_frame_sent h first) (after_taking h second)) (sym same) q.1))
-only_moves (by_second f ∷ moves) (by_second g ∷ others) first second p q =
+only_moves (by_sender f ∷ moves) (by_sender g ∷ others) first second p q =
     let same : f ≡ g = one_frame (due_frame first) f g second.owes p.0.due q.0.due p.0.owes q.0.owes in
-    ap₂ (λ (h : Frame) (ms : List Move). by_second h ∷ ms) same
+    ap₂ (λ (h : Frame) (ms : List Move). by_sender h ∷ ms) same
     (only_moves moves others (after_taking f first) (after_frame_sent f second) p.1
     (subst (λ (h : Frame). Plays others (after_taking h first) (after_frame_sent h second)) (sym same) q.1))

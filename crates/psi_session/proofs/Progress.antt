@@ -12,7 +12,8 @@ use Rattle.psi_frames.specs.Script.{EndState, IsWithin, Keeps, KeepsOn, MayCome,
 use Rattle.psi_frames.proofs.Judged.{one_frame}
 use Rattle.psi_frames.proofs.Scripts.{within-goes_on}
 use Rattle.psi_frames.proofs.Sending.{keeps_on-more, keeps_on-none}
-use Rattle.psi_session.specs.Playing.{AwaitsFew, CanPlay, HasPassed, HasPlayed, IsDone, Move, Plays, Sends, after_frame_sent, by_first, by_second, frame_of, played_bytes, taken_by_first, taken_by_second}
+use Rattle.psi_spec.specs.Sessions.{Move, by_receiver, by_sender, frame_of, of_receiver, of_sender, wire_bytes}
+use Rattle.psi_session.specs.Playing.{AwaitsFew, CanPlay, HasPassed, HasPlayed, IsDone, Plays, Sends, after_frame_sent}
 use Rattle.psi_session.specs.Transcripts.{Hearing, HearsOn}
 use Rattle.psi_session.proofs.Filling.{hears_on-more, hears_on-none}
 use Rattle.psi_session.proofs.Moves.{due_by, less_by_first, less_by_second, moves_left}
@@ -35,14 +36,14 @@ not_both e f from to due sent (Some e') is =
 pub record FirstSends (due : List Move) (first second : EndState) : Type 0 where
   pub frame : Frame
   pub rest : List Move
-  pub is : due ≡ by_first frame ∷ rest
+  pub is : due ≡ by_receiver frame ∷ rest
   pub sent : Sends frame first second
   pub then : Plays rest (after_frame_sent frame first) (after_taking frame second)
 
 pub record SecondSends (due : List Move) (first second : EndState) : Type 0 where
   pub frame : Frame
   pub rest : List Move
-  pub is : due ≡ by_second frame ∷ rest
+  pub is : due ≡ by_sender frame ∷ rest
   pub sent : Sends frame second first
   pub then : Plays rest (after_taking frame first) (after_frame_sent frame second)
 
@@ -51,22 +52,22 @@ pub first_sends : (e : Expect) (due : List Move) (first second : EndState) → d
 first_sends e [] first second is plays =
     let none : due_frame second ≡ None = done_awaits second plays.1 in
     absurd (cc)
-first_sends e (by_first f ∷ rest) first second is plays = record { frame = f; rest = rest; is = refl; sent = plays.0; then = plays.1 }
-first_sends e (by_second f ∷ rest) first second is plays = absurd (not_both e f second first is plays.0 (due_frame first) refl)
+first_sends e (by_receiver f ∷ rest) first second is plays = record { frame = f; rest = rest; is = refl; sent = plays.0; then = plays.1 }
+first_sends e (by_sender f ∷ rest) first second is plays = absurd (not_both e f second first is plays.0 (due_frame first) refl)
 
 -- where the first end awaits a frame, the second sends it
 pub second_sends : (e : Expect) (due : List Move) (first second : EndState) → due_frame first ≡ Some e → Plays due first second → SecondSends due first second
 second_sends e [] first second is plays =
     let none : due_frame first ≡ None = done_awaits first plays.0 in
     absurd (cc)
-second_sends e (by_first f ∷ rest) first second is plays = absurd (not_both e f first second is plays.0 (due_frame second) refl)
-second_sends e (by_second f ∷ rest) first second is plays = record { frame = f; rest = rest; is = refl; sent = plays.0; then = plays.1 }
+second_sends e (by_receiver f ∷ rest) first second is plays = absurd (not_both e f first second is plays.0 (due_frame second) refl)
+second_sends e (by_sender f ∷ rest) first second is plays = record { frame = f; rest = rest; is = refl; sent = plays.0; then = plays.1 }
 
 -- where neither awaits one, no move is left
 pub none_sends : (due : List Move) (first second : EndState) → due_frame first ≡ None → due_frame second ≡ None → Plays due first second → due ≡ []
 none_sends [] first second a b plays = refl
-none_sends (by_first f ∷ rest) first second a b plays = absurd (subst (λ (x : Option Expect). MayCome x f) b plays.0.due)
-none_sends (by_second f ∷ rest) first second a b plays = absurd (subst (λ (x : Option Expect). MayCome x f) a plays.0.due)
+none_sends (by_receiver f ∷ rest) first second a b plays = absurd (subst (λ (x : Option Expect). MayCome x f) b plays.0.due)
+none_sends (by_sender f ∷ rest) first second a b plays = absurd (subst (λ (x : Option Expect). MayCome x f) a plays.0.due)
 
 -- one end sends one frame at most
 one_sent : (e : Expect) (f g : Frame) (from to : EndState) → due_frame to ≡ Some e → Sends f from to → Sends g from to → f ≡ g
@@ -76,33 +77,33 @@ one_sent e f g from to due a b =
 
 -- ---- moves that were made
 
-first_took-append : (xs ys : List Move) → taken_by_first (xs ++ ys) ≡ taken_by_first xs ++ taken_by_first ys
+first_took-append : (xs ys : List Move) → of_sender (xs ++ ys) ≡ of_sender xs ++ of_sender ys
 first_took-append [] ys = refl
-first_took-append (by_first f ∷ xs) ys = first_took-append xs ys
-first_took-append (by_second f ∷ xs) ys = ap (λ (fs : List Frame). f ∷ fs) (first_took-append xs ys)
+first_took-append (by_receiver f ∷ xs) ys = first_took-append xs ys
+first_took-append (by_sender f ∷ xs) ys = ap (λ (fs : List Frame). f ∷ fs) (first_took-append xs ys)
 
-second_took-append : (xs ys : List Move) → taken_by_second (xs ++ ys) ≡ taken_by_second xs ++ taken_by_second ys
+second_took-append : (xs ys : List Move) → of_receiver (xs ++ ys) ≡ of_receiver xs ++ of_receiver ys
 second_took-append [] ys = refl
-second_took-append (by_first f ∷ xs) ys = ap (λ (fs : List Frame). f ∷ fs) (second_took-append xs ys)
-second_took-append (by_second f ∷ xs) ys = second_took-append xs ys
+second_took-append (by_receiver f ∷ xs) ys = ap (λ (fs : List Frame). f ∷ fs) (second_took-append xs ys)
+second_took-append (by_sender f ∷ xs) ys = second_took-append xs ys
 
 -- the bytes of one move more
-played-one : (moves : List Move) (move : Move) → played_bytes (moves ++ move ∷ []) ≡ played_bytes moves ++ layout (frame_of move)
+played-one : (moves : List Move) (move : Move) → wire_bytes (moves ++ move ∷ []) ≡ wire_bytes moves ++ layout (frame_of move)
 played-one moves move =
-    flat_map-append (λ (m : Move). layout (frame_of m)) moves (move ∷ []) ∙ ap (λ (xs : List ℕ). played_bytes moves ++ xs) (append-nil (layout (frame_of move)))
+    flat_map-append (λ (m : Move). layout (frame_of m)) moves (move ∷ []) ∙ ap (λ (xs : List ℕ). wire_bytes moves ++ xs) (append-nil (layout (frame_of move)))
 
 -- what an end keeps and a transcript hears after one move more
 kept-one : {X : Type 0} (keeps keeps' keeps'' : Keeps X) (took : List Move → List Frame) (moves : List Move) (move : Move) → took (moves ++ move ∷ []) ≡ took moves ++ took (move ∷ [])
-    → KeepsOn keeps keeps' (took moves) (played_bytes moves) → KeepsOn keeps' keeps'' (took (move ∷ [])) (layout (frame_of move)) → KeepsOn keeps keeps'' (took (moves ++ move ∷ [])) (played_bytes (moves ++ move ∷ []))
+    → KeepsOn keeps keeps' (took moves) (wire_bytes moves) → KeepsOn keeps' keeps'' (took (move ∷ [])) (layout (frame_of move)) → KeepsOn keeps keeps'' (took (moves ++ move ∷ [])) (wire_bytes (moves ++ move ∷ []))
 kept-one keeps keeps' keeps'' took moves move took_one before one =
-    subst (λ (fs : List Frame). KeepsOn keeps keeps'' fs (played_bytes (moves ++ move ∷ []))) (sym took_one)
+    subst (λ (fs : List Frame). KeepsOn keeps keeps'' fs (wire_bytes (moves ++ move ∷ []))) (sym took_one)
     (subst (λ (xs : List ℕ). KeepsOn keeps keeps'' (took moves ++ took (move ∷ [])) xs) (sym (played-one moves move))
-    (keeps_on-more keeps keeps' keeps'' (took moves) (took (move ∷ [])) (played_bytes moves) (layout (frame_of move)) before one))
+    (keeps_on-more keeps keeps' keeps'' (took moves) (took (move ∷ [])) (wire_bytes moves) (layout (frame_of move)) before one))
 
-heard-one : {T : Type 0} (hears hears' hears'' : Hearing T) (moves : List Move) (move : Move) → HearsOn hears hears' (played_bytes moves) → HearsOn hears' hears'' (layout (frame_of move))
-    → HearsOn hears hears'' (played_bytes (moves ++ move ∷ []))
+heard-one : {T : Type 0} (hears hears' hears'' : Hearing T) (moves : List Move) (move : Move) → HearsOn hears hears' (wire_bytes moves) → HearsOn hears' hears'' (layout (frame_of move))
+    → HearsOn hears hears'' (wire_bytes (moves ++ move ∷ []))
 heard-one hears hears' hears'' moves move before one =
-    subst (λ (xs : List ℕ). HearsOn hears hears'' xs) (sym (played-one moves move)) (hears_on-more hears hears' hears'' (played_bytes moves) (layout (frame_of move)) before one)
+    subst (λ (xs : List ℕ). HearsOn hears hears'' xs) (sym (played-one moves move)) (hears_on-more hears hears' hears'' (wire_bytes moves) (layout (frame_of move)) before one)
 
 -- ---- where both stand
 
@@ -120,9 +121,9 @@ pub record PlayedSoFar {A B T : Type 0} (first second : EndState) (kept_by_first
   pub due : List Move
   pub all : Plays (made ++ due) first second
   pub left : Plays due first' second'
-  pub first_keeps : KeepsOn kept_by_first kept_by_first' (taken_by_first made) (played_bytes made)
-  pub second_keeps : KeepsOn kept_by_second kept_by_second' (taken_by_second made) (played_bytes made)
-  pub heard : HearsOn hears hears' (played_bytes made)
+  pub first_keeps : KeepsOn kept_by_first kept_by_first' (of_sender made) (wire_bytes made)
+  pub second_keeps : KeepsOn kept_by_second kept_by_second' (of_receiver made) (wire_bytes made)
+  pub heard : HearsOn hears hears' (wire_bytes made)
   pub first_most : ℕ
   pub second_most : ℕ
   pub first_few : IsWithin first_most first'.next
@@ -204,8 +205,8 @@ played_by_first e first second first' second' first'' second'' a a' a'' b b' b''
     let next = first_sends e so_far.due first' second' due so_far.left in
     let f : Frame = passed.frame in
     let same : next.frame ≡ f = one_sent e next.frame f first' second' due next.sent passed.sends in
-    let move : Move = by_first f in
-    let is : so_far.due ≡ move ∷ next.rest = next.is ∙ ap (λ (g : Frame). by_first g ∷ next.rest) same in
+    let move : Move = by_receiver f in
+    let is : so_far.due ≡ move ∷ next.rest = next.is ∙ ap (λ (g : Frame). by_receiver g ∷ next.rest) same in
     let valid : IsValid e f = sent_valid e f first' second' due passed.sends in
     let fits = within_due e so_far.second_most second' due so_far.second_few in
     let some : 0 < so_far.second_most = fits.0 in
@@ -216,8 +217,8 @@ played_by_first e first second first' second' first'' second'' a a' a'' b b' b''
       due = next.rest;
       all = subst (λ (moves : List Move). Plays moves first second) (sym (append_assoc so_far.made (move ∷ []) next.rest)) (subst (λ (moves : List Move). Plays (so_far.made ++ moves) first second) is so_far.all);
       left = subst (λ (s : EndState). Plays next.rest first'' s) taken (subst (λ (s : EndState). Plays next.rest s (after_taking next.frame second')) sent next.then);
-      first_keeps = kept-one a a' a'' taken_by_first so_far.made move (first_took-append so_far.made (move ∷ [])) so_far.first_keeps passed.sender;
-      second_keeps = kept-one b b' b'' taken_by_second so_far.made move (second_took-append so_far.made (move ∷ [])) so_far.second_keeps passed.taker;
+      first_keeps = kept-one a a' a'' of_sender so_far.made move (first_took-append so_far.made (move ∷ [])) so_far.first_keeps passed.sender;
+      second_keeps = kept-one b b' b'' of_receiver so_far.made move (second_took-append so_far.made (move ∷ [])) so_far.second_keeps passed.taker;
       heard = heard-one t t' t'' so_far.made move so_far.heard passed.heard;
       first_most = so_far.first_most;
       second_most = so_far.second_most - 1;
@@ -233,8 +234,8 @@ played_by_second e first second first' second' first'' second'' a a' a'' b b' b'
     let next = second_sends e so_far.due first' second' due so_far.left in
     let f : Frame = passed.frame in
     let same : next.frame ≡ f = one_sent e next.frame f second' first' due next.sent passed.sends in
-    let move : Move = by_second f in
-    let is : so_far.due ≡ move ∷ next.rest = next.is ∙ ap (λ (g : Frame). by_second g ∷ next.rest) same in
+    let move : Move = by_sender f in
+    let is : so_far.due ≡ move ∷ next.rest = next.is ∙ ap (λ (g : Frame). by_sender g ∷ next.rest) same in
     let valid : IsValid e f = sent_valid e f second' first' due passed.sends in
     let fits = within_due e so_far.first_most first' due so_far.first_few in
     let some : 0 < so_far.first_most = fits.0 in
@@ -245,8 +246,8 @@ played_by_second e first second first' second' first'' second'' a a' a'' b b' b'
       due = next.rest;
       all = subst (λ (moves : List Move). Plays moves first second) (sym (append_assoc so_far.made (move ∷ []) next.rest)) (subst (λ (moves : List Move). Plays (so_far.made ++ moves) first second) is so_far.all);
       left = subst (λ (s : EndState). Plays next.rest s second'') taken (subst (λ (s : EndState). Plays next.rest (after_taking next.frame first') s) sent next.then);
-      first_keeps = kept-one a a' a'' taken_by_first so_far.made move (first_took-append so_far.made (move ∷ [])) so_far.first_keeps passed.taker;
-      second_keeps = kept-one b b' b'' taken_by_second so_far.made move (second_took-append so_far.made (move ∷ [])) so_far.second_keeps passed.sender;
+      first_keeps = kept-one a a' a'' of_sender so_far.made move (first_took-append so_far.made (move ∷ [])) so_far.first_keeps passed.taker;
+      second_keeps = kept-one b b' b'' of_receiver so_far.made move (second_took-append so_far.made (move ∷ [])) so_far.second_keeps passed.sender;
       heard = heard-one t t' t'' so_far.made move so_far.heard passed.heard;
       first_most = so_far.first_most - 1;
       second_most = so_far.second_most;

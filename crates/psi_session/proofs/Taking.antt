@@ -17,19 +17,10 @@ use Rattle.psi_session.proofs.ByTurns.{Takes}
 
 -- ---- columns
 
--- the frames of columns, from number c on
-abbrev pub columns_from : ℕ → List (List ℕ) → List Frame
-columns_from c [] = []
-columns_from c (u ∷ us) = column_frame c u ∷ columns_from (c + 1) us
-
-pub columns_from-bytes : (c : ℕ) (us : List (List ℕ)) → flat_map layout (columns_from c us) ≡ layouts (column_frames c us)
-columns_from-bytes c [] = refl
-columns_from-bytes c (u ∷ us) = ap (λ (xs : List ℕ). layout (column_frame c u) ++ xs) (columns_from-bytes (c + 1) us)
-
 -- the sender takes them, and its answer is then over the opened ones
 pub columns_taken : (deal : SenderDeal) (ys : List (List ℕ)) (count : ℕ) (opened chosen us : List (List ℕ)) → length us ≡ length chosen
     → AreAwaited (opens_columns deal ys count opened chosen) (column_list (length opened) us)
-    → Takes (columns_from (length opened) us) (opens_columns deal ys count opened chosen)
+    → Takes (column_frames (length opened) us) (opens_columns deal ys count opened chosen)
     (opens_columns deal ys count (opened ++ opened_from deal.choice (length opened) chosen us) [])
 columns_taken deal ys count opened [] [] same due = ap (λ (xs : List (List ℕ)). opens_columns deal ys count xs []) (sym (append-nil opened))
 columns_taken deal ys count opened [] (u ∷ us) same due = absurd (omega arith)
@@ -39,9 +30,9 @@ columns_taken deal ys count opened (column ∷ chosen) (u ∷ us) same due =
     let next : List (List ℕ) = opened ++ x ∷ [] in
     let long : length next ≡ length opened + 1 = length-append opened (x ∷ []) in (
       due.0,
-      subst (λ (xs : List (List ℕ)). Takes (columns_from (length opened + 1) us) (opens_columns deal ys count next chosen) (opens_columns deal ys count xs []))
+      subst (λ (xs : List (List ℕ)). Takes (column_frames (length opened + 1) us) (opens_columns deal ys count next chosen) (opens_columns deal ys count xs []))
           (append_assoc opened (x ∷ []) (opened_from deal.choice (length opened + 1) chosen us))
-          (subst (λ (c : ℕ). Takes (columns_from c us) (opens_columns deal ys count next chosen) (opens_columns deal ys count (next ++ opened_from deal.choice c chosen us) [])) long
+          (subst (λ (c : ℕ). Takes (column_frames c us) (opens_columns deal ys count next chosen) (opens_columns deal ys count (next ++ opened_from deal.choice c chosen us) [])) long
           (columns_taken deal ys count next chosen us (omega arith)
           (subst (λ (c : ℕ). AreAwaited (opens_columns deal ys count next chosen) (column_list c us)) (sym long) due.1))),
     )

@@ -34,10 +34,11 @@ use Rattle.psi_sender.specs.Running as sending
 use Rattle.psi_sender.specs.Script.{awaits_done, opens_columns, sender_script}
 use Rattle.psi_sender.specs.Script as sent_by
 use Rattle.psi_sender.proofs.Awaited.{column_list, columns_awaited}
-use Rattle.psi_session.specs.Playing.{Move, Plays, by_first, by_second, played_bytes, taken_by_first}
+use Rattle.psi_spec.specs.Sessions.{Move, by_receiver, by_sender, of_sender, wire_bytes}
+use Rattle.psi_session.specs.Playing.{Plays}
 use Rattle.psi_session.specs.Transcripts.{lists_for}
 use Rattle.psi_session.proofs.ByTurns.{Takes, bytes_of_first, bytes_of_second, first_sends, first_step, second_sends, second_step, taken_of_first, taken_of_second}
-use Rattle.psi_session.proofs.Taking.{columns_from, columns_from-bytes, columns_taken, lists_taken}
+use Rattle.psi_session.proofs.Taking.{column_frames, columns_from-bytes, columns_taken, lists_taken}
 
 module _ (receiver : ReceiverDeal) (sender : SenderDeal) (placed : List Placed) (ys : List (List ℕ)) where
   -- what each end sends
@@ -48,32 +49,32 @@ module _ (receiver : ReceiverDeal) (sender : SenderDeal) (placed : List Placed) 
   second_hello = sender_hello sender.id sender.session (length ys)
 
   abbrev pub columns : List Frame
-  columns = columns_from 0 (dealt_masked receiver placed)
+  columns = column_frames 0 (dealt_masked receiver placed)
 
   abbrev pub lists : List Frame
   lists = lists_list 0 (lists_for receiver sender placed ys)
 
   -- the moves: both hellos, the columns, the lists and the end
   abbrev end_moves : List Move
-  end_moves = by_first done_frame ∷ []
+  end_moves = by_receiver done_frame ∷ []
 
   abbrev list_moves : List Move
-  list_moves = map by_second lists ++ end_moves
+  list_moves = map by_sender lists ++ end_moves
 
   abbrev column_moves : List Move
-  column_moves = map by_first columns ++ list_moves
+  column_moves = map by_receiver columns ++ list_moves
 
   abbrev pub session_moves : List Move
-  session_moves = by_first first_hello ∷ by_second second_hello ∷ column_moves
+  session_moves = by_receiver first_hello ∷ by_sender second_hello ∷ column_moves
 
   -- the receiver takes the sender's stream
-  pub session_taken : taken_by_first session_moves ≡ second_hello ∷ lists
+  pub session_taken : of_sender session_moves ≡ second_hello ∷ lists
   session_taken =
       ap (λ (fs : List Frame). second_hello ∷ fs)
       (taken_of_first columns list_moves ∙ (taken_of_second lists end_moves ∙ append-nil lists))
 
   -- all bytes that pass are those of the session
-  pub session_passes : length receiver.id ≡ 16 → length sender.id ≡ 16 → played_bytes session_moves ≡ session_bytes receiver sender placed ys
+  pub session_passes : length receiver.id ≡ 16 → length sender.id ≡ 16 → wire_bytes session_moves ≡ session_bytes receiver sender placed ys
   unfolding session_bytes receiver_stream sender_stream
   session_passes id id' =
       let sent : List ℕ = layouts (column_frames 0 (dealt_masked receiver placed)) in
@@ -185,7 +186,7 @@ module _ (receiver : ReceiverDeal) (sender : SenderDeal) (placed : List Placed) 
     unfolding receiver_script
     plays_session =
         let rest : EndState = goes_on false (opens_columns sender ys count [] chosen) in
-        first_step first_hello (by_second second_hello ∷ column_moves) (layout first_hello ++ []) []
+        first_step first_hello (by_sender second_hello ∷ column_moves) (layout first_hello ++ []) []
         (awaits (expect.SenderHello receiver.id receiver.session) (λ hello. answers_hello receiver placed (received.count_in hello))) true true
         (expect.ReceiverHello sender.id sender.session)
         (λ hello. sends (layout second_hello) (opens_columns sender ys (sent_by.count_in hello) [] (sender_columns sender (rows_for sender.stash (sent_by.count_in hello))))) refl first_valid

@@ -1,15 +1,10 @@
 -- How two ends play a session together, frame by frame.
 use Rattle.std.specs.Prelude.{◌≡◌, ◌<◌, ◌^◌, ℕ, List, [], ◌∷◌, length, take}
-use Rattle.std.specs.List.{flat_map}
 use Rattle.psi_spec.specs.Frames.{Frame, layout}
+use Rattle.psi_spec.specs.Sessions.{Move, by_receiver, by_sender, of_receiver, of_sender, wire_bytes}
 use Rattle.psi_frames.specs.Converse.{KeepsFrame}
 use Rattle.psi_frames.specs.Script.{EndState, IsWithin, Keeps, KeepsOn, MayCome, after_sending, after_taking, due_frame, over}
 use Rattle.psi_session.specs.Transcripts.{Hearing, HearsOn}
-
--- a move of a session: one of the ends sends a frame, which the other one takes
-pub data Move : Type 0 where
-  by_first : Frame → Move
-  by_second : Frame → Move
 
 -- one end owes a frame first, which the other one awaits
 pub record Sends (f : Frame) (from to : EndState) : Type 0 where
@@ -25,33 +20,13 @@ pub record IsDone (state : EndState) : Type 0 where
 abbrev pub after_frame_sent : Frame → EndState → EndState
 after_frame_sent f state = after_sending (length (layout f)) state
 
--- both ends make these moves one after another, and then both are done
+-- both ends, of which the first is the receiver, make these moves one after another, and then both are done
 abbrev pub Plays : List Move → EndState → EndState → Type 0
 Plays [] first second = IsDone first × IsDone second
-Plays (by_first f ∷ moves) first second =
+Plays (by_receiver f ∷ moves) first second =
     Sends f first second × Plays moves (after_frame_sent f first) (after_taking f second)
-Plays (by_second f ∷ moves) first second =
+Plays (by_sender f ∷ moves) first second =
     Sends f second first × Plays moves (after_taking f first) (after_frame_sent f second)
-
--- the frame of a move
-abbrev pub frame_of : Move → Frame
-frame_of (by_first f) = f
-frame_of (by_second f) = f
-
--- the frames that the first end takes, which are those of the second, and those that the second end takes
-abbrev pub taken_by_first : List Move → List Frame
-taken_by_first [] = []
-taken_by_first (by_first f ∷ moves) = taken_by_first moves
-taken_by_first (by_second f ∷ moves) = f ∷ taken_by_first moves
-
-abbrev pub taken_by_second : List Move → List Frame
-taken_by_second [] = []
-taken_by_second (by_first f ∷ moves) = f ∷ taken_by_second moves
-taken_by_second (by_second f ∷ moves) = taken_by_second moves
-
--- all bytes that pass, in order
-abbrev pub played_bytes : List Move → List ℕ
-played_bytes moves = flat_map (λ move. layout (frame_of move)) moves
 
 -- there are moves that both ends make until they are done
 abbrev pub CanPlay : EndState → EndState → Type 0
@@ -79,8 +54,8 @@ pub record HasPlayed {First Second Transcript : Type 0} (begins_first begins_sec
     (hears hears' : Hearing Transcript) (ends_first ends_second : EndState) : Type 0 where
   pub moves : List Move
   pub plays : Plays moves begins_first begins_second
-  pub first : KeepsOn kept_by_first kept_by_first' (taken_by_first moves) (played_bytes moves)
-  pub second : KeepsOn kept_by_second kept_by_second' (taken_by_second moves) (played_bytes moves)
-  pub heard : HearsOn hears hears' (played_bytes moves)
+  pub first : KeepsOn kept_by_first kept_by_first' (of_sender moves) (wire_bytes moves)
+  pub second : KeepsOn kept_by_second kept_by_second' (of_receiver moves) (wire_bytes moves)
+  pub heard : HearsOn hears hears' (wire_bytes moves)
   pub first_done : IsDone ends_first
   pub second_done : IsDone ends_second

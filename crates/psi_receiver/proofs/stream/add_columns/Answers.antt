@@ -1,7 +1,7 @@
 use Rattle.std.proofs.Common.{◌≡◌, ◌+◌, ◌∙◌, ◌++◌, ℕ, List, take, sym, ap, ap₂, arith, append_assoc}
 use Rattle.psi_spec.specs.Frames.{column_frame, layout}
 use Rattle.psi_spec.specs.Matrices.{IsMatrix, column_of}
-use Rattle.psi_spec.specs.Streams.{column_frames}
+use Rattle.psi_spec.specs.Streams.{layouts, column_frames}
 use Rattle.psi_spec.proofs.StreamSteps.{column_frames-more}
 use Rattle.psi_receiver.proofs.stream.add_columns.Goals as goal
 

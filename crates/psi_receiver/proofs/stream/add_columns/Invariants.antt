@@ -1,6 +1,6 @@
 use Rattle.std.proofs.Common.{◌≡◌, ◌<◌, ◌++◌, take}
 use Rattle.psi_spec.specs.Matrices.{IsMatrix}
-use Rattle.psi_spec.specs.Streams.{column_frames}
+use Rattle.psi_spec.specs.Streams.{layouts, column_frames}
 use Rattle.psi_receiver.proofs.stream.add_columns.Given as goal
 
 -- the frames of the columns so far were added

@@ -1,7 +1,7 @@
 use Rattle.std.proofs.Common.{◌∙◌, ◌++◌, ℕ, List, ap, ap₂}
 use Rattle.psi_spec.specs.Frames.{done_frame, layout, receiver_hello}
 use Rattle.psi_spec.specs.Matrices.{Matrix}
-use Rattle.psi_spec.specs.Streams.{column_frames, columns_stream}
+use Rattle.psi_spec.specs.Streams.{layouts, column_frames, columns_stream}
 use Rattle.psi_receiver.proofs.stream.receiver_stream.Goals as goal
 
 pub returns : goal.returns

@@ -3,7 +3,7 @@ use Rattle.std.proofs.lemmas.List.Elements.{recursion_from_All}
 use Rattle.psi_spec.specs.Columns.{column_bytes}
 use Rattle.psi_spec.specs.Matrices.{Matrix}
 use Rattle.psi_spec.specs.Sessions.{dealt_masked}
-use Rattle.psi_spec.specs.Streams.{column_frames}
+use Rattle.psi_spec.specs.Streams.{layouts, column_frames}
 use Rattle.psi_receiver.specs.Running.{ReceiverState}
 use Rattle.psi_receiver.proofs.Wires.{columns_long}
 use Rattle.psi_receiver.proofs.session.Session.rows.Goals as goal
