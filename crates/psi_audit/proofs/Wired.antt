@@ -10,51 +10,20 @@ use Rattle.psi_spec.specs.Matrices.{IsColumn, IsColumnSet}
 use Rattle.psi_spec.specs.Meeting.{Placed}
 use Rattle.psi_spec.specs.Records.{IsWire}
 use Rattle.psi_spec.specs.Sessions.{dealt_masked, session_bytes}
-use Rattle.psi_spec.specs.Streams.{block_of, block_frame, blocks_for, column_frames, dealt_sets, list_frames, lists_frames, receiver_stream, sender_side, sender_stream, words_of}
+use Rattle.psi_spec.specs.Streams.{block_frame, block_of, blocks_for, column_frames, dealt_sets, layouts, list_frames, lists_frames, sender_side, words_of}
 use Rattle.psi_spec.specs.TagLists.{IsTagList, tag_lists}
 use Rattle.psi_spec.specs.ColumnSets.{AreColumnSets}
 use Rattle.psi_spec.proofs.DealtColumns.{dealt_sets_are}
 use Rattle.psi_spec.proofs.Forming.{masked_columns_are, tag_lists_are}
 use Rattle.psi_spec.proofs.Records.{MayPrecede, wire_of_layouts}
 use Rattle.psi_spec.proofs.RowWords.{length-row_words}
-use Rattle.psi_spec.proofs.StreamSizes.{length-column_frame, length-joined, length-receiver_hello, length-sender_hello, length-tags_frame, sessions_are_woven}
-
--- ---- the frames
-
-abbrev columns_list : ℕ → List (List ℕ) → List Frame
-columns_list c [] = []
-columns_list c (u ∷ us) = column_frame c u ∷ columns_list (c + 1) us
-
-columns_are : (c : ℕ) (us : List (List ℕ)) → layouts (column_frames c us) ≡ flat_map layout (columns_list c us)
-columns_are c [] = refl
-columns_are c (u ∷ us) = ap (λ (rest : List ℕ). layout (column_frame c u) ++ rest) (columns_are (c + 1) us)
-
-abbrev block : ℕ → List (List ℕ) → ℕ → Frame
-block list tags b = tags_frame list b (concat (block_of tags b))
-
-layouts-append : (xs ys : List Frame) → flat_map layout (xs ++ ys) ≡ flat_map layout xs ++ flat_map layout ys
-layouts-append [] ys = refl
-layouts-append (x ∷ xs) ys = ap (λ (rest : List ℕ). layout x ++ rest) (layouts-append xs ys) ∙ sym (append_assoc (layout x) (flat_map layout xs) (flat_map layout ys))
-
-blocks_are : (list : ℕ) (tags : List (List ℕ)) (bs : List ℕ) → layouts (map (block_frame list tags) bs) ≡ flat_map layout (map (block list tags) bs)
-blocks_are list tags [] = refl
-blocks_are list tags (b ∷ bs) = ap (λ (rest : List ℕ). layout (block_frame list tags b) ++ rest) (blocks_are list tags bs)
-
-abbrev lists_list : ℕ → List (List (List ℕ)) → List Frame
-lists_list list [] = []
-lists_list list (tags ∷ lists) = map (block list tags) (range_with_len 0 (blocks_for (length tags))) ++ lists_list (list + 1) lists
-
-lists_are : (list : ℕ) (lists : List (List (List ℕ))) → layouts (lists_frames list lists) ≡ flat_map layout (lists_list list lists)
-unfolding list_frames
-lists_are list [] = refl
-lists_are list (tags ∷ lists) =
-    let blocks : List ℕ = range_with_len 0 (blocks_for (length tags)) in
-    ap₂ (λ (xs ys : List ℕ). xs ++ ys) (blocks_are list tags blocks) (lists_are (list + 1) lists)
-    ∙ sym (layouts-append (map (block list tags) blocks) (lists_list (list + 1) lists))
+use Rattle.std.proofs.lemmas.Grind.{flat_map-append}
+use Rattle.psi_spec.proofs.StreamSizes.{length-column_frame, length-joined, length-receiver_hello, length-sender_hello, length-tags_frame}
+use Rattle.psi_spec.proofs.SessionMoves.{wire_is}
 
 -- ---- they stand before the end
 
-columns_precede : (rows c : ℕ) (us : List (List ℕ)) → rows < 2 ^ 34 → AllByRecursion (IsColumn rows) us → AllByRecursion MayPrecede (columns_list c us)
+columns_precede : (rows c : ℕ) (us : List (List ℕ)) → rows < 2 ^ 34 → AllByRecursion (IsColumn rows) us → AllByRecursion MayPrecede (column_frames c us)
 columns_precede rows c [] few all = tt
 columns_precede rows c (u ∷ us) few all =
     let size = all.0.size in
@@ -71,7 +40,7 @@ joined_few g tags b few all =
     length-take_min : (n : ℕ) (xs : List (List ℕ)) → length (take n xs) ≤ n
     length-take_min n xs = omega (arith, length-take {A = List ℕ} n xs)
 
-blocks_precede : (g list : ℕ) (tags : List (List ℕ)) (bs : List ℕ) → g ≤ 16 → All (λ tag. length tag ≡ g) tags → AllByRecursion MayPrecede (map (block list tags) bs)
+blocks_precede : (g list : ℕ) (tags : List (List ℕ)) (bs : List ℕ) → g ≤ 16 → All (λ tag. length tag ≡ g) tags → AllByRecursion MayPrecede (map (block_frame list tags) bs)
 blocks_precede g list tags [] few all = tt
 blocks_precede g list tags (b ∷ bs) few all =
     let joined = joined_few g tags b few all in
@@ -81,26 +50,29 @@ all-append : (P : Frame → Type 0) (xs ys : List Frame) → AllByRecursion P xs
 all-append P [] ys h k = k
 all-append P (x ∷ xs) ys h k = (h.0, all-append P xs ys h.1 k)
 
-lists_precede : (g m list : ℕ) (lists : List (List (List ℕ))) → g ≤ 16 → AllByRecursion (IsTagList g m) lists → AllByRecursion MayPrecede (lists_list list lists)
+lists_precede : (g m list : ℕ) (lists : List (List (List ℕ))) → g ≤ 16 → AllByRecursion (IsTagList g m) lists → AllByRecursion MayPrecede (lists_frames list lists)
+unfolding list_frames
 lists_precede g m list [] few all = tt
 lists_precede g m list (tags ∷ lists) few all =
     let blocks : List ℕ = range_with_len 0 (blocks_for (length tags)) in
-    all-append MayPrecede (map (block list tags) blocks) (lists_list (list + 1) lists) (blocks_precede g list tags blocks few all.0.lengths) (lists_precede g m (list + 1) lists few all.1)
+    all-append MayPrecede (map (block_frame list tags) blocks) (lists_frames (list + 1) lists) (blocks_precede g list tags blocks few all.0.lengths) (lists_precede g m (list + 1) lists few all.1)
 
 -- ---- the whole
 
 pub session_is_wire : (receiver : ReceiverDeal) (sender : SenderDeal) (placed : List Placed) (ys : List (List ℕ)) → length receiver.id ≡ 16 → length sender.id ≡ 16 → length receiver.seeds ≡ 512
     → receiver.stash ≤ 16 → sender.tag_length ≤ 16 → length placed < 2 ^ 32 → IsWire (session_bytes receiver sender placed ys)
-unfolding session_bytes receiver_stream sender_stream
+unfolding session_bytes
 session_is_wire receiver sender placed ys own_id peer_id seeds stash tag_length few =
     let rows : ℕ = rows_for receiver.stash (length placed) in
     let columns : List (List ℕ) = dealt_masked receiver placed in
     let lists : List (List (List ℕ)) = tag_lists sender.stash (sender_side sender (length placed) columns) ys in
-    let h : List ℕ = layout (receiver_hello receiver.id receiver.session (length placed)) in
-    let k : List ℕ = layout (sender_hello sender.id sender.session (length ys)) in
-    let cs : List Frame = columns_list 0 columns in
-    let ls : List Frame = lists_list 0 lists in
-    let frames : List Frame = receiver_hello receiver.id receiver.session (length placed) ∷ sender_hello sender.id sender.session (length ys) ∷ (cs ++ ls) in
+    let hello : Frame = receiver_hello receiver.id receiver.session (length placed) in
+    let answer : Frame = sender_hello sender.id sender.session (length ys) in
+    let h : List ℕ = layout hello in
+    let k : List ℕ = layout answer in
+    let cs : List Frame = column_frames 0 columns in
+    let ls : List Frame = lists_frames 0 lists in
+    let frames : List Frame = hello ∷ answer ∷ (cs ++ ls) in
     let count : length (words_of receiver placed) ≡ rows = length-row_words receiver.key placed rows in
     let set : IsColumnSet rows columns =
     subst (λ (n : ℕ). IsColumnSet n columns) count
@@ -113,10 +85,11 @@ session_is_wire receiver sender placed ys own_id peer_id seeds stash tag_length 
             (lists_precede sender.tag_length (length ys) 0 lists tag_length (recursion_from_All (IsTagList sender.tag_length (length ys)) lists (tag_lists_are sender.stash (sender_side sender (length placed) columns) ys tag_length))),
       ),
     ) in
-    let joined : flat_map layout frames ≡ ((h ++ k) ++ layouts (column_frames 0 columns)) ++ layouts (lists_frames 0 lists) =
-    ap (λ (rest : List ℕ). h ++ (k ++ rest)) (layouts-append cs ls ∙ ap₂ (λ (xs zs : List ℕ). xs ++ zs) (sym (columns_are 0 columns)) (sym (lists_are 0 lists)))
-    ∙ sym (append_assoc (h ++ k) (layouts (column_frames 0 columns)) (layouts (lists_frames 0 lists)) ∙ append_assoc h k (layouts (column_frames 0 columns) ++ layouts (lists_frames 0 lists))) in
-    subst IsWire
-    (ap (λ (all : List ℕ). all ++ layout done_frame) joined
-    ∙ sym (sessions_are_woven receiver.id sender.id receiver.session sender.session (length placed) (length ys) columns lists own_id peer_id))
-    (wire_of_layouts frames (All-from_recursion MayPrecede frames precede))
+    let sent : List ℕ = layouts cs in
+    let tags : List ℕ = layouts ls in
+    let end : List ℕ = layout done_frame in
+    let joined : flat_map layout frames ++ end ≡ h ++ (k ++ (sent ++ (tags ++ end))) =
+    ap (λ (rest : List ℕ). h ++ (k ++ rest) ++ end) (flat_map-append layout cs ls)
+    ∙ append_assoc h (k ++ (sent ++ tags)) end
+    ∙ ap (λ (rest : List ℕ). h ++ rest) (append_assoc k (sent ++ tags) end ∙ ap (λ (rest : List ℕ). k ++ rest) (append_assoc sent tags end)) in
+    subst IsWire (joined ∙ sym (wire_is hello answer columns lists)) (wire_of_layouts frames (All-from_recursion MayPrecede frames precede))

@@ -3,7 +3,7 @@ use Rattle.std.specs.Prelude.{◌≡◌, ◌+◌, ◌*◌, ◌/◌, ℕ, false, 
 use Rattle.std.specs.Int.{w16}
 use Rattle.psi_spec.specs.Columns.{column_bytes}
 use Rattle.psi_spec.specs.Matrices.{has_padding}
-use Rattle.psi_spec.specs.Frames.{Field}
+use Rattle.psi_spec.specs.Frames.{Field, column_head}
 use Rattle.psi_frames.specs.declared.reasons.Reason.{Reason}
 use Rattle.psi_frames.specs.declared.reasons.Reason.TheVariants as reason
 use Rattle.psi_frames.specs.Fields.{index_field}
@@ -29,7 +29,7 @@ column_fields index rows = index_field w16 index ∷ column_field rows ∷ []
 
 -- the bytes of the frames of 512 columns of so many rows
 abbrev pub columns_size : ℕ → ℕ
-columns_size rows = 512 * (7 + column_bytes rows)
+columns_size rows = 512 * (column_head + column_bytes rows)
 
 -- a column is the one with this index, has a bit for each row, and none behind the last
 pub record IsColumnOf (index rows place : ℕ) (bytes : List ℕ) : Type 0 where

@@ -4,7 +4,7 @@ use Rattle.std.specs.Cmp.Lexicographic.{slice_cmp}
 use Rattle.std.specs.Int.{w8, w32}
 use Rattle.std.specs.List.Sorted.{IsSorted}
 use Rattle.std.specs.Ordering.{nat_cmp}
-use Rattle.psi_spec.specs.Frames.{Field, first_below, tags_of}
+use Rattle.psi_spec.specs.Frames.{Field, first_below, tags_head, tags_of}
 use Rattle.psi_spec.specs.Streams.{blocks_for}
 use Rattle.psi_frames.specs.declared.reasons.Reason.{Reason}
 use Rattle.psi_frames.specs.declared.reasons.Reason.TheVariants as reason
@@ -32,7 +32,7 @@ tags_fields list block tags width floor = list_field list ∷ index_field w32 bl
 
 -- the bytes of the frames of so many lists, each of so many tags
 abbrev pub lists_size : ℕ → ℕ → ℕ → ℕ
-lists_size lists width count = lists * (10 * blocks_for count + width * count)
+lists_size lists width count = lists * (tags_head * blocks_for count + width * count)
 
 -- tags are so many of this width, of this block of this list, and rise from the floor on
 pub record AreTagsOf (list block tags width : ℕ) (floor : List ℕ) (of_list of_block : ℕ) (bytes : List ℕ) : Type 0 where

@@ -8,11 +8,11 @@ use Rattle.psi_spec.specs.Limits.{bins_for}
 use Rattle.psi_spec.specs.Meeting.{Placed, placed_of}
 use Rattle.psi_spec.specs.Placement.{Slot, IsPlacementOf}
 use Rattle.psi_spec.specs.Records.{record_front}
-use Rattle.psi_spec.specs.Sessions.{weave}
 use Rattle.psi_spec.specs.Texts.{lines_text}
 use Rattle.psi_spec.proofs.Dealing.{length-placement}
 use Rattle.psi_base.specs.Outside.{Known, Outside}
-use Rattle.psi_receiver.specs.Laws.{own_stream, receiver_dialogue}
+use Rattle.psi_receiver.specs.Laws.{receiver_dialogue}
+use Rattle.psi_receiver.proofs.Hearing.{hears_streams}
 use Rattle.psi_receiver.specs.Receiving.{Received}
 use Rattle.psi_link.specs.Receive.{IsHeard, session_record, shown_text, shows_and_keeps}
 use Rattle.psi_walk.specs.Tree.{Effect, says, puts, Placing, Tree, places, talks, holds, ends, End, ended, stopped}
@@ -47,14 +47,16 @@ heard_text : (xs : List (List ℕ)) (deal : ReceiverDeal) (slots : List Slot) (l
     → IsHeard deal (placed_of xs slots) log shown log' taken → shown_text xs deal slots taken ≡ lines_text (marked shown xs)
 unfolding shown_text
 heard_text xs deal slots log shown log' taken is long h =
-    ap (λ (lists : List (List (List ℕ))). lines_text (hit_items (receiver_side deal xs slots) lists)) (lists_of_stream deal h.count h.lists taken is h.stream)
+    ap (λ (lists : List (List (List ℕ))). lines_text (hit_items (receiver_side deal xs slots) lists)) (lists_of_stream deal (placed_of xs slots) h.count h.lists taken is h.stream)
     ∙ ap lines_text (sym (ap (λ (marks : List Bool). marked marks xs) h.hit ∙ marked_hits deal xs slots h.lists long))
 
-heard_record : (xs : List (List ℕ)) (deal : ReceiverDeal) (slots : List Slot) (log : List ℕ) (shown : List Bool) (log' taken : List ℕ) → log ≡ record_front slots
+heard_record : (xs : List (List ℕ)) (deal : ReceiverDeal) (slots : List Slot) (log : List ℕ) (shown : List Bool) (log' taken : List ℕ) → IsReceiverDeal deal → log ≡ record_front slots
     → IsHeard deal (placed_of xs slots) log shown log' taken → session_record xs deal slots taken ≡ sealed log'
 unfolding session_record
-heard_record xs deal slots log shown log' taken front h =
-    ap sealed (ap (λ (bytes : List ℕ). bytes ++ weave (own_stream deal (placed_of xs slots)) taken) (sym front) ∙ sym h.logged)
+heard_record xs deal slots log shown log' taken is front h =
+    let placed : List Placed = placed_of xs slots in
+    let wire = (hears_streams deal placed h.count h.lists taken is h.stream).wire in
+    ap sealed (ap₂ (λ (before bytes : List ℕ). before ++ bytes) (sym front) wire ∙ sym h.logged)
 
 -- what an end has to print and to keep once its session was run
 abbrev pub to_do : List (List ℕ) → List Bool → List ℕ → List Effect
@@ -64,7 +66,7 @@ heard_effects : (xs : List (List ℕ)) (deal : ReceiverDeal) (slots : List Slot)
     → IsHeard deal (placed_of xs slots) log shown log' taken → shows_and_keeps xs deal slots taken ≡ to_do xs shown log'
 heard_effects xs deal slots log shown log' taken is long front h =
     ap₂ (λ (text file : List ℕ). says text ∷ puts 4 file ∷ []) (heard_text xs deal slots log shown log' taken is long h)
-    (heard_record xs deal slots log shown log' taken front h)
+    (heard_record xs deal slots log shown log' taken is front h)
 
 -- the session and what follows it, once the link is open
 pub session_goes_on : (known : Known) (words : List (List ℕ)) (xs : List (List ℕ)) (deal : ReceiverDeal) (slots : List Slot) (log : List ℕ) (shown : List Bool) (log' : List ℕ) (before after : Outside) (end : End)

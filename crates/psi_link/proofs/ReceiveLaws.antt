@@ -50,7 +50,7 @@ text_of : (xs : List (List ℕ)) (deal : ReceiverDeal) (slots : List Slot) (coun
     → IsStreamFor deal count lists taken → shown_text xs deal slots taken ≡ hit_lines xs deal slots lists
 unfolding shown_text
 text_of xs deal slots count lists taken is stream =
-    ap (λ (all : List (List (List ℕ))). lines_text (hit_items (receiver_side deal xs slots) all)) (lists_of_stream deal count lists taken is stream)
+    ap (λ (all : List (List (List ℕ))). lines_text (hit_items (receiver_side deal xs slots) all)) (lists_of_stream deal (placed_of xs slots) count lists taken is stream)
 
 -- a session that read well took a sender's stream: what is said and kept for it, and what was sent
 pub record HeardWell (known : Known) (words : List (List ℕ)) (before : Outside) (xs : List (List ℕ)) (deal : ReceiverDeal) (slots : List Slot) (taken : List ℕ) : Type 0 where

@@ -2,6 +2,7 @@
 use Rattle.std.specs.Prelude.{◌≡◌, ◌<◌, ◌≤◌, ◌⊎◌, ℕ, List, [], ◌∷◌, ◌++◌, Contains, length, option_map, Some, None, Err}
 use Rattle.psi_spec.specs.DealFiles.{receiver_bytes}
 use Rattle.psi_spec.specs.Deals.{ReceiverDeal, SenderDeal, ArePair, IsReceiverDeal}
+use Rattle.psi_spec.specs.Frames.{hello_size}
 use Rattle.psi_spec.specs.Hits.{hit_items, receiver_side}
 use Rattle.psi_spec.specs.Items.{first_bad, items_of}
 use Rattle.psi_spec.specs.Limits.{bins_for, file_limit, limit_items}
@@ -81,10 +82,10 @@ AfterSession known words before placed P =
     (λ lists taken. P (exchanged words before xs deal slots taken) (hit_lines xs deal slots lists)
     (session_record xs deal slots taken)))
 
--- no more was sent than the 34 bytes of a hello, or a refusal of the outside was counted
+-- no more was sent than a hello has, or a refusal of the outside was counted
 abbrev pub IsAtHelloOrCounted : Outside → Outside → Type 0
 IsAtHelloOrCounted before after =
-    ((sent : List ℕ) × (length sent ≤ 34) × (after.outgoing ≡ option_map (λ gone. gone ++ sent) before.outgoing))
+    ((sent : List ℕ) × (length sent ≤ hello_size) × (after.outgoing ≡ option_map (λ gone. gone ++ sent) before.outgoing))
     ⊎ Rose before.refusals after.refusals
 
 -- nothing was sent or taken, and nothing placed

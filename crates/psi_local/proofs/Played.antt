@@ -21,7 +21,7 @@ use Rattle.psi_spec.proofs.Placing.{length-placed_of}
 use Rattle.psi_base.specs.Outside.{Known, Outside}
 use Rattle.psi_log.specs.Recording.{RecorderState}
 use Rattle.psi_receiver.specs.Receiving.{hits_of}
-use Rattle.psi_session.specs.Transcripts.{lists_for}
+use Rattle.psi_spec.specs.Sessions.{dealt_lists}
 use Rattle.psi_local.specs.Local.{keeps, local_receiver, local_rest, local_sender, local_session, local_set, local_text}
 use Rattle.psi_walk.specs.Placing.{placing_of}
 use Rattle.psi_local.specs.Transcript.{IsPlayed, WentOn, front_for, log_of, writes}
@@ -68,13 +68,13 @@ went_further first now later before bytes went hash log = record {
 -- what an end tells and a transcript has taken, by the deals, the placed items and the sender's items
 abbrev pub Plays : ReceiverDeal → SenderDeal → List Placed → List (List ℕ) → Option (List ℕ) → PlayedSession → Type 0
 Plays receiver sender placed ys front played =
-    (played.receiver.shown ≡ hits_of receiver placed (lists_for receiver sender placed ys))
+    (played.receiver.shown ≡ hits_of receiver placed (dealt_lists receiver sender placed ys))
     × Holds256 played.transcript.hasher (session_bytes receiver sender placed ys)
     × (log_of played.transcript.log ≡ option_map (λ (start : List ℕ). start ++ session_bytes receiver sender placed ys) front)
 
 -- a transcript that took all bytes of a session since it had none
 transcribed : (receiver : ReceiverDeal) (sender : SenderDeal) (placed : List Placed) (ys : List (List ℕ)) (front : Option (List ℕ)) (first : SessionTranscript) (played : PlayedSession)
-    → played.receiver.shown ≡ hits_of receiver placed (lists_for receiver sender placed ys) → Holds256 first.hasher [] → log_of first.log ≡ front
+    → played.receiver.shown ≡ hits_of receiver placed (dealt_lists receiver sender placed ys) → Holds256 first.hasher [] → log_of first.log ≡ front
     → WentOn first played.transcript (session_bytes receiver sender placed ys) → Plays receiver sender placed ys front played
 transcribed receiver sender placed ys front first played marks empty at went = (
   marks,
@@ -85,7 +85,7 @@ transcribed receiver sender placed ys front first played marks empty at went = (
 -- the same of ends that have these deals and items
 pub is_played : (receiver own : ReceiverDeal) (sender peer : SenderDeal) (xs : List (List ℕ)) (slots : List Slot) (placed : List Placed) (ys items : List (List ℕ)) (front : Option (List ℕ))
     (first : SessionTranscript) (played : PlayedSession) → own ≡ receiver → peer ≡ sender → placed ≡ placed_of xs slots → items ≡ ys
-    → played.receiver.shown ≡ hits_of own placed (lists_for own peer placed items) → Holds256 first.hasher [] → log_of first.log ≡ front
+    → played.receiver.shown ≡ hits_of own placed (dealt_lists own peer placed items) → Holds256 first.hasher [] → log_of first.log ≡ front
     → WentOn first played.transcript (session_bytes own peer placed items) → IsPlayed receiver sender xs slots ys front played
 is_played receiver own sender peer xs slots placed ys items front first played of_receiver of_sender of_placed of_items marks empty at went =
     let all : Plays receiver sender (placed_of xs slots) ys front played =
@@ -99,26 +99,26 @@ is_played receiver own sender peer xs slots placed ys items front first played o
 
 -- the lists of the session are those of the pair of deals
 same_lists : (receiver : ReceiverDeal) (sender : SenderDeal) (xs : List (List ℕ)) (slots : List Slot) (ys : List (List ℕ)) → length xs ≡ length slots
-    → lists_for receiver sender (placed_of xs slots) ys ≡ pair_lists receiver sender xs slots ys
+    → dealt_lists receiver sender (placed_of xs slots) ys ≡ pair_lists receiver sender xs slots ys
 same_lists receiver sender xs slots ys long =
     ap (λ (n : ℕ). tag_lists sender.stash (sender_side sender n (dealt_masked receiver (placed_of xs slots))) ys) (length-placed_of xs slots long)
 
 -- the marked items are those that are shown
 pub played_items : (receiver : ReceiverDeal) (sender : SenderDeal) (xs : List (List ℕ)) (slots : List Slot) (ys : List (List ℕ)) (marks : List Bool)
     → IsPlacementOf receiver.stash receiver.key (bins_for (length xs)) xs slots → FindsShown receiver sender xs ys slots
-    → marks ≡ hits_of receiver (placed_of xs slots) (lists_for receiver sender (placed_of xs slots) ys)
+    → marks ≡ hits_of receiver (placed_of xs slots) (dealt_lists receiver sender (placed_of xs slots) ys)
     → marked marks xs ≡ shown (pair_setup receiver sender xs slots) ys
 played_items receiver sender xs slots ys marks placement finds shown_is =
     let long = length-placement receiver.stash receiver.key (bins_for (length xs)) xs slots placement in
     ap (λ (bs : List Bool). marked bs xs) shown_is
-    ∙ (marked_hits receiver xs slots (lists_for receiver sender (placed_of xs slots) ys) long
+    ∙ (marked_hits receiver xs slots (dealt_lists receiver sender (placed_of xs slots) ys) long
     ∙ (ap (λ (lists : List (List (List ℕ))). hit_items (receiver_side receiver xs slots) lists) (same_lists receiver sender xs slots ys long)
     ∙ finds.hit))
 
 -- and so their lines are what `local` prints
 pub played_text : (words : List (List ℕ)) (xs : List (List ℕ)) (slots : List Slot) (ys : List (List ℕ)) (marks : List Bool)
     → IsPlacementOf (local_receiver words).stash (local_receiver words).key (bins_for (length xs)) xs slots
-    → marks ≡ hits_of (local_receiver words) (placed_of xs slots) (lists_for (local_receiver words) (local_sender words) (placed_of xs slots) ys)
+    → marks ≡ hits_of (local_receiver words) (placed_of xs slots) (dealt_lists (local_receiver words) (local_sender words) (placed_of xs slots) ys)
     → lines_text (marked marks xs) ≡ local_text words xs slots ys
 unfolding local_text
 played_text words xs slots ys marks placement shown_is =
@@ -153,7 +153,7 @@ pub length-played : (receiver : ReceiverDeal) (sender : SenderDeal) (xs : List (
     → length played.receiver.shown ≡ length xs
 length-played receiver sender xs slots ys front played placement is =
     let long = length-placement receiver.stash receiver.key (bins_for (length xs)) xs slots placement in
-    ap length is.shown ∙ (length-hits_of receiver (placed_of xs slots) (lists_for receiver sender (placed_of xs slots) ys) ∙ length-placed_of xs slots long)
+    ap length is.shown ∙ (length-hits_of receiver (placed_of xs slots) (dealt_lists receiver sender (placed_of xs slots) ys) ∙ length-placed_of xs slots long)
 
 -- ---- the run
 

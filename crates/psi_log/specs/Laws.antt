@@ -4,7 +4,8 @@ use Rattle.std.specs.List.{flat_map}
 use Rattle.psi_spec.specs.DealFiles.{sealed}
 use Rattle.psi_spec.specs.Placement.{Slot}
 use Rattle.psi_spec.specs.Records.{IsLogged, IsWire, LoggedSession, logged_of, record_file, record_front}
-use Rattle.psi_spec.specs.Sessions.{weave}
+use Rattle.psi_spec.specs.Frames.{receiver_hello, sender_hello}
+use Rattle.psi_spec.specs.Sessions.{moves_with, wire_bytes}
 use Rattle.psi_spec.specs.Streams.{IsReceiverStream, IsSenderStream}
 use Rattle.psi_log.specs.BadRecords.{bad_record}
 
@@ -27,11 +28,14 @@ RecordsReadBack =
 abbrev pub WiresEnd : Type 0
 WiresEnd = (wire more : List ℕ) → IsWire wire → IsWire (wire ++ more) → more ≡ []
 
--- the record of a session has 9 bytes, 5 of each slot, both streams, and 32 of its hash
+-- the record of a session has 9 bytes, 5 of each slot, as many as both streams, and 32 of its hash
 abbrev pub RecordsHaveSizes : Type 0
 RecordsHaveSizes =
     (stash : ℕ) (id : List ℕ) (session tag_length m n : ℕ) (columns : List (List ℕ)) (lists : List (List (List ℕ)))
     (own peer : List ℕ) (slots : List Slot)
-    → length id ≡ 16 → IsReceiverStream stash id session m columns own
+    → IsReceiverStream stash id session m columns own
     → IsSenderStream stash id session tag_length n lists peer
-    → length (record_file slots (weave own peer)) ≡ 9 + 5 * length slots + length own + length peer + 32
+    → let hello = receiver_hello id session m in
+    let answer = sender_hello id session n in
+    length (record_file slots (wire_bytes (moves_with hello answer columns lists)))
+    ≡ 9 + 5 * length slots + length own + length peer + 32

@@ -16,7 +16,7 @@ use Rattle.psi_spec.proofs.SessionMoves.{wire_is}
 use Rattle.psi_frames.specs.Dialogue.{good}
 use Rattle.psi_frames.specs.declared.expect.Expect.TheVariants as expect
 use Rattle.psi_frames.specs.Expected.{IsValid, frame_at, frame_length, wrong}
-use Rattle.psi_frames.specs.Script.{AreAwaited, IsRead, Script, awaits, over, owed_for, sends, wire_for, wire_of}
+use Rattle.psi_frames.specs.Script.{AreAwaited, IsRead, Script, awaits, frames_of, over, owed_for, sends, wire_for}
 use Rattle.psi_frames.specs.Valid.{HasParts}
 use Rattle.psi_frames.proofs.FrameAt.{frame_at_layout}
 use Rattle.psi_frames.proofs.Parts.{valid_by_parts, valid_from_parts}
@@ -107,6 +107,14 @@ wired_whole deal placed count lists bytes stream =
     ap (λ (xs : List ℕ). layout hello ++ (layout answer ++ (columns ++ xs))) (lists_wired deal.tag_length count 0 (3 + deal.stash) lists stream.size each)
     ∙ sym (wire_is hello answer (dealt_masked deal placed) lists)
 
+-- they are the frames that it takes of the stream
+pub frames_heard : (deal : ReceiverDeal) (placed : List Placed) (count : ℕ) (lists : List (List (List ℕ))) (bytes : List ℕ) → IsReceiverDeal deal
+    → IsStreamFor deal count lists bytes → frames_of (receiver_script deal placed) bytes ≡ stream_frames deal count lists
+frames_heard deal placed count lists bytes is stream =
+    ap (frames_of (receiver_script deal placed)) (sym (append-nil bytes))
+    ∙ takes_awaited (receiver_script deal placed) (stream_frames deal count lists) bytes []
+    (record { due = stream_due deal placed count lists bytes is stream; bytes = stream.is ∙ stream_bytes deal count lists })
+
 pub hears_streams : HearsStreams
 unfolding receiver_dialogue
 hears_streams deal placed count lists bytes is stream =
@@ -120,8 +128,7 @@ hears_streams deal placed count lists bytes is stream =
       sends = subst (λ (xs : List ℕ). (receiver_dialogue deal placed).owes xs ≡ own_stream deal placed) (sym same)
           (ap (receiver_dialogue deal placed).owes (sym (append-nil (flat_map layout frames))) ∙ owes_all script frames [] due
           ∙ answered deal placed count lists bytes stream);
-      wire = ap (wire_of script) (sym (append-nil bytes)) ∙ ap (wire_for script) (takes_awaited script frames bytes [] read)
-          ∙ wired_whole deal placed count lists bytes stream;
+      wire = ap (wire_for script) (frames_heard deal placed count lists bytes is stream) ∙ wired_whole deal placed count lists bytes stream;
     }
 
 -- ---- nothing else

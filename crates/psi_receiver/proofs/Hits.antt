@@ -27,14 +27,14 @@ use Rattle.psi_receiver.proofs.Awaited.{all-drop, all-take, block_list, lists_li
 
 -- ---- the tags of a list, over its frames
 
--- the padded tags of a block are its tags, padded
-padded_block : (g : ℕ) (tags : List (List ℕ)) → 1 ≤ g → AllByRecursion (λ tag. length tag ≡ g) tags
-    → padded_tags g (concat tags) ≡ map (padded g) tags
-padded_block g tags some all =
+-- the joined tags of a block are read again
+pub block_read : (g : ℕ) (tags : List (List ℕ)) → 1 ≤ g → AllByRecursion (λ tag. length tag ≡ g) tags
+    → tags_of (tags_in g (concat tags)) g (concat tags) ≡ tags
+block_read g tags some all =
     let exact : length tags * g ≡ length tags * g + 0 = omega arith in
     let many : tags_in g (concat tags) ≡ length tags =
     ap (λ (n : ℕ). n / g) (length-joined g tags all ∙ exact) ∙ div-mul-add (length tags) g 0 (omega arith) in
-    ap (λ (n : ℕ). map (padded g) (tags_of n g (concat tags))) many ∙ ap (map (padded g)) (tags_of-concat g tags all)
+    ap (λ (n : ℕ). tags_of n g (concat tags)) many ∙ tags_of-concat g tags all
 
 -- `of` makes of the joined tags of a block what `each` makes of them one by one
 abbrev pub MakesEach : {A : Type 0} → ℕ → (List ℕ → List A) → (List ℕ → A) → Type 0
@@ -134,7 +134,7 @@ shown_are_hits deal placed count lists marks shown is within each marked many by
         by.as_marked
         ∙ marked list m m_at by.place by.within
         ∙ ap₂ (λ (ts : List (List ℕ)) (x : List ℕ). list_any (bytes_eq x) ts)
-        (lists_in (padded_tags g) g (padded g) (λ tags all. padded_block g tags (some_width deal is) all) list 0 list count lists (omega arith)
+        (lists_in (padded_tags g) g (padded g) (λ tags all. ap (map (padded g)) (block_read g tags (some_width deal is) all)) list 0 list count lists (omega arith)
         (recursion_from_All (IsTagList g count) lists each)) by.same
         ∙ sym (is_hit_by_padded_tags (finder deal placed) lists p)
         ∙ sym (get_or-map hit placed i nothing false inside)

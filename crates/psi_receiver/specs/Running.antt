@@ -6,7 +6,7 @@ use Rattle.psi_spec.specs.Limits.{limit_items, bins_for, rows_for}
 use Rattle.psi_spec.specs.Columns.{column_bytes}
 use Rattle.psi_spec.specs.Deals.{ReceiverDeal, IsReceiverDeal}
 use Rattle.psi_spec.specs.Formulas.{padded}
-use Rattle.psi_spec.specs.Frames.{Frame, layout, receiver_hello, done_frame}
+use Rattle.psi_spec.specs.Frames.{Frame, layout, receiver_hello, done_frame, hello_size, column_head}
 use Rattle.psi_spec.specs.Hits.{list_of_slot}
 use Rattle.psi_spec.specs.Matrices.{IsMatrix}
 use Rattle.psi_spec.specs.Meeting.{Placed, placed_of}
@@ -149,8 +149,8 @@ pub record IsMemory (deal : ReceiverDeal) (items : List (List ℕ)) (slots : Lis
   pub columns : IsMatrix memory.sent
   pub own : AreOwnTags deal slots memory.own
   pub shown : length memory.shown.items ≡ length items
-  pub hello_room : 34 ≤ memory.outbox.room
-  pub column_room : 7 + column_bytes memory.sent.rows ≤ memory.outbox.room
+  pub hello_room : hello_size ≤ memory.outbox.room
+  pub column_room : column_head + column_bytes memory.sent.rows ≤ memory.outbox.room
   pub spare : memory.outbox.pending ≡ [] → memory.outbox.spare ≡ memory.outbox.room
 
 -- the own tags of a list can be merged from a place on: they rise, each has a mark, and a merge stands there

@@ -1,7 +1,7 @@
 // The receiver's end whose session is written down.
 ghost use Rattle.std.specs.Prelude.{◌≡◌, ◌+◌, ◌^◌, ◌<◌, ◌≤◌, ◌++◌, [], false, length, IfOk, IsTrue, OnErr, OnOk};
 ghost use Rattle.psi_spec.specs.Deals.{IsReceiverDeal};
-ghost use Rattle.psi_spec.specs.Frames.{layout};
+ghost use Rattle.psi_spec.specs.Frames.{hello_size, layout};
 ghost use Rattle.psi_frames.specs.Expected.{seen};
 ghost use Rattle.psi_frames.specs.Script.{MayCome, due_frame, script_of};
 ghost use Rattle.psi_receiver.specs.Logging.{HasRoomFor, IsMost, answer_size};
@@ -79,7 +79,7 @@ impl<'a> LoggedReceiver<'a> {
 // rows.
 fn most_after_hello(deal: &ReceiverDeal, rows: u32, count: u32) -> u64
     ensures exact { result ≡ answer_size rows deal.now.tag_length count (3 + deal.now.stash) }
-    ensures small { result + 34 < 2 ^ 64 }
+    ensures small { result + hello_size < 2 ^ 64 }
 {
     let lists = lists_size(3 + deal.stash(), deal.width(), count);
     columns_size(rows) + (lists + u64::from(DONE_SIZE))

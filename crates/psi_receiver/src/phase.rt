@@ -1,7 +1,7 @@
 // How far a session has come.
 ghost use Rattle.std.specs.Prelude.{◌≡◌, ◌<◌, ◌≤◌};
 ghost use Rattle.psi_spec.specs.Limits.{limit_items};
-ghost use Rattle.psi_spec.specs.Streams.{blocks_for};
+ghost use Rattle.psi_spec.specs.Streams.{block_tags, blocks_for};
 ghost use Rattle.psi_receiver.specs.Phases.{first_of, next_phase};
 ghost use Rattle.psi_receiver.specs.Script.{tags_at};
 
@@ -57,7 +57,7 @@ impl Merge {
         requires { self.now.block < blocks_for self.now.count }
         ensures tags { result ≡ tags_at self.now.count self.now.block }
         ensures some { 1 ≤ result }
-        ensures few { result ≤ 1024 }
+        ensures few { result ≤ block_tags }
     {
         (self.count - BLOCK_TAGS * self.block).min(BLOCK_TAGS) as u16
     }

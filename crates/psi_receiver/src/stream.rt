@@ -45,8 +45,8 @@ fn add_columns(stream: &mut Vec<u8>, outbox: &mut Outbox, columns: &Columns) -> 
 }
 
 /// The bytes that a receiver with this deal and `count` items sends, which have these words in its
-/// rows, over any two sets of columns: its hello, the masked columns and the end of the session. They
-/// are as many as `39 + 512 * (7 + w)`, where a column has w bytes. There are as many rows of all as
+/// rows, over any two sets of columns: its hello, the masked columns and the end of the session. They are as many as
+/// those of a hello, 512 frames with a column of one bit a row, and an end. There are as many rows of all as
 /// that many items have with the stash of the deal, and both sets are clean.
 ///
 /// With the words of placed items and the columns of the deal's seeds this is what a session sends. It

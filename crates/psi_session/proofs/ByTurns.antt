@@ -67,23 +67,3 @@ second_sends (f ∷ frames) moves owes out next new (awaits e go) rest is takes 
     let more : List ℕ = flat_map layout frames ++ out in
     second_step f (map by_sender frames ++ moves) owes more next new false e go (is ∙ append_assoc (layout f) (flat_map layout frames) out) takes.0
     (second_sends frames moves more out next new (go f) rest refl takes.1 later)
-
--- ---- the bytes and the frames of such moves
-
-pub bytes_of_first : (frames : List Frame) (moves : List Move) → wire_bytes (map by_receiver frames ++ moves) ≡ flat_map layout frames ++ wire_bytes moves
-bytes_of_first [] moves = refl
-bytes_of_first (f ∷ frames) moves =
-    ap (λ (xs : List ℕ). layout f ++ xs) (bytes_of_first frames moves) ∙ sym (append_assoc (layout f) (flat_map layout frames) (wire_bytes moves))
-
-pub bytes_of_second : (frames : List Frame) (moves : List Move) → wire_bytes (map by_sender frames ++ moves) ≡ flat_map layout frames ++ wire_bytes moves
-bytes_of_second [] moves = refl
-bytes_of_second (f ∷ frames) moves =
-    ap (λ (xs : List ℕ). layout f ++ xs) (bytes_of_second frames moves) ∙ sym (append_assoc (layout f) (flat_map layout frames) (wire_bytes moves))
-
-pub taken_of_first : (frames : List Frame) (moves : List Move) → of_sender (map by_receiver frames ++ moves) ≡ of_sender moves
-taken_of_first [] moves = refl
-taken_of_first (f ∷ frames) moves = taken_of_first frames moves
-
-pub taken_of_second : (frames : List Frame) (moves : List Move) → of_sender (map by_sender frames ++ moves) ≡ frames ++ of_sender moves
-taken_of_second [] moves = refl
-taken_of_second (f ∷ frames) moves = ap (λ (fs : List Frame). f ∷ fs) (taken_of_second frames moves)

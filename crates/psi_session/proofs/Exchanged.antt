@@ -21,7 +21,7 @@ use Rattle.psi_sender.specs.Running as sending
 use Rattle.psi_sender.proofs.Within.{within_script}
 use Rattle.psi_spec.specs.Sessions.{Move, of_sender, wire_bytes}
 use Rattle.psi_session.specs.Playing.{AwaitsFew, CanPlay, IsDone, Plays}
-use Rattle.psi_session.specs.Transcripts.{lists_for}
+use Rattle.psi_spec.specs.Sessions.{dealt_lists}
 use Rattle.psi_session.proofs.OnlyMoves.{only_moves}
 use Rattle.psi_session.proofs.WholeSession.{can_play, each_list, session_moves, session_passes, session_taken}
 
@@ -35,7 +35,7 @@ module _ (receiver : ReceiverState) (sender : SenderState) (new : IsNewReceiver 
     (is : IsReceiverDeal receiver.deal) (is' : IsSenderDeal sender.deal)
     (pair : ArePair receiver.deal sender.deal) (few : length receiver.placed ≤ limit_items) (few' : length sender.items ≤ limit_items) where
   abbrev own_lists : List (List (List ℕ))
-  own_lists = lists_for receiver.deal sender.deal receiver.placed sender.items
+  own_lists = dealt_lists receiver.deal sender.deal receiver.placed sender.items
 
   abbrev their_moves : List Move
   their_moves = session_moves receiver.deal sender.deal receiver.placed sender.items
@@ -61,7 +61,7 @@ module _ (receiver : ReceiverState) (sender : SenderState) (new : IsNewReceiver 
 
   -- so the bytes of the session pass
   pub bytes_are : (moves : List Move) → Plays moves (receiving.state_of receiver) (sending.state_of sender) → wire_bytes moves ≡ session_bytes receiver.deal sender.deal receiver.placed sender.items
-  bytes_are moves plays = ap wire_bytes (moves_are moves plays) ∙ session_passes receiver.deal sender.deal receiver.placed sender.items is.id is'.id
+  bytes_are moves plays = ap wire_bytes (moves_are moves plays) ∙ session_passes receiver.deal sender.deal receiver.placed sender.items
 
   -- and the receiver shows the items that are hit in the sender's lists
   pub hits_are : (after : ReceiverState) (moves : List Move) → Plays moves (receiving.state_of receiver) (sending.state_of sender)

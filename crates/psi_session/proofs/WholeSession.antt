@@ -17,7 +17,7 @@ use Rattle.psi_spec.specs.TagLists.{IsTagList}
 use Rattle.psi_spec.proofs.DealtColumns.{are_columns, dealt_sets_are, sender_columns_are}
 use Rattle.psi_spec.proofs.Forming.{receiver_streams_are_well_formed, sender_streams_are_well_formed}
 use Rattle.psi_spec.proofs.Opening.{opened_columns_answer}
-use Rattle.psi_spec.proofs.StreamSizes.{sessions_are_woven}
+use Rattle.psi_spec.proofs.SessionMoves.{receivers_moved, receivers_wire, senders_moved, senders_wire, wire_is}
 use Rattle.psi_frames.specs.declared.expect.Expect.TheVariants as expect
 use Rattle.psi_frames.specs.Expected.{IsValid}
 use Rattle.psi_frames.specs.Script.{AreAwaited, EndState, Script, awaits, goes_on, over, sends}
@@ -36,9 +36,9 @@ use Rattle.psi_sender.specs.Script as sent_by
 use Rattle.psi_sender.proofs.Awaited.{column_list, columns_awaited}
 use Rattle.psi_spec.specs.Sessions.{Move, by_receiver, by_sender, of_sender, wire_bytes}
 use Rattle.psi_session.specs.Playing.{Plays}
-use Rattle.psi_session.specs.Transcripts.{lists_for}
-use Rattle.psi_session.proofs.ByTurns.{Takes, bytes_of_first, bytes_of_second, first_sends, first_step, second_sends, second_step, taken_of_first, taken_of_second}
-use Rattle.psi_session.proofs.Taking.{column_frames, columns_from-bytes, columns_taken, lists_taken}
+use Rattle.psi_spec.specs.Sessions.{dealt_lists}
+use Rattle.psi_session.proofs.ByTurns.{Takes, first_sends, first_step, second_sends, second_step}
+use Rattle.psi_session.proofs.Taking.{columns_taken, lists_taken}
 
 module _ (receiver : ReceiverDeal) (sender : SenderDeal) (placed : List Placed) (ys : List (List ℕ)) where
   -- what each end sends
@@ -52,7 +52,7 @@ module _ (receiver : ReceiverDeal) (sender : SenderDeal) (placed : List Placed) 
   columns = column_frames 0 (dealt_masked receiver placed)
 
   abbrev pub lists : List Frame
-  lists = lists_list 0 (lists_for receiver sender placed ys)
+  lists = lists_list 0 (dealt_lists receiver sender placed ys)
 
   -- the moves: both hellos, the columns, the lists and the end
   abbrev end_moves : List Move
@@ -71,23 +71,18 @@ module _ (receiver : ReceiverDeal) (sender : SenderDeal) (placed : List Placed) 
   pub session_taken : of_sender session_moves ≡ second_hello ∷ lists
   session_taken =
       ap (λ (fs : List Frame). second_hello ∷ fs)
-      (taken_of_first columns list_moves ∙ (taken_of_second lists end_moves ∙ append-nil lists))
+      ((receivers_moved columns list_moves).1 ∙ ((senders_moved lists end_moves).1 ∙ append-nil lists))
 
   -- all bytes that pass are those of the session
-  pub session_passes : length receiver.id ≡ 16 → length sender.id ≡ 16 → wire_bytes session_moves ≡ session_bytes receiver sender placed ys
-  unfolding session_bytes receiver_stream sender_stream
-  session_passes id id' =
-      let sent : List ℕ = layouts (column_frames 0 (dealt_masked receiver placed)) in
-      let tags : List ℕ = layouts (lists_frames 0 (lists_for receiver sender placed ys)) in
-      let end : List ℕ = layout done_frame in
+  pub session_passes : wire_bytes session_moves ≡ session_bytes receiver sender placed ys
+  unfolding session_bytes
+  session_passes =
       ap (λ (xs : List ℕ). layout first_hello ++ (layout second_hello ++ xs))
-      (bytes_of_first columns list_moves
-      ∙ ap₂ (λ (a b : List ℕ). a ++ b) (columns_from-bytes 0 (dealt_masked receiver placed))
-      (bytes_of_second lists end_moves ∙ ap₂ (λ (a b : List ℕ). a ++ b) (lists_list-bytes 0 (lists_for receiver sender placed ys)) (append-nil end)))
-      ∙ (sym (append_assoc (layout first_hello) (layout second_hello) (sent ++ (tags ++ end)))
-      ∙ (sym (append_assoc (layout first_hello ++ layout second_hello) sent (tags ++ end))
-      ∙ (sym (append_assoc (layout first_hello ++ layout second_hello ++ sent) tags end)
-      ∙ sym (sessions_are_woven receiver.id sender.id receiver.session sender.session (length placed) (length ys) (dealt_masked receiver placed) (lists_for receiver sender placed ys) id id'))))
+      (receivers_wire columns list_moves
+      ∙ ap (λ (xs : List ℕ). layouts columns ++ xs)
+      (senders_wire lists end_moves
+      ∙ ap₂ (λ (a b : List ℕ). a ++ b) (lists_list-bytes 0 (dealt_lists receiver sender placed ys)) (append-nil (layout done_frame))))
+      ∙ sym (wire_is first_hello second_hello (dealt_masked receiver placed) (dealt_lists receiver sender placed ys))
 
   -- ---- each move can be made
 
@@ -140,15 +135,15 @@ module _ (receiver : ReceiverDeal) (sender : SenderDeal) (placed : List Placed) 
         same_many (omega (arith, sent_set.count))
 
     -- the lists that the sender makes
-    pub lists_are : IsSenderStream sender.stash sender.id sender.session sender.tag_length (length ys) (lists_for receiver sender placed ys) (sender_stream sender count sent ys)
+    pub lists_are : IsSenderStream sender.stash sender.id sender.session sender.tag_length (length ys) (dealt_lists receiver sender placed ys) (sender_stream sender count sent ys)
     lists_are = let width : sender.tag_length ≤ 16 = let h = is'.tag_length in grind (arith, nat_tests) in sender_streams_are_well_formed sender count sent ys few' width
 
-    pub each_list : All (IsTagList receiver.tag_length (length ys)) (lists_for receiver sender placed ys)
-    each_list = subst (λ (g : ℕ). All (IsTagList g (length ys)) (lists_for receiver sender placed ys)) (sym pair.tag_length) lists_are.each
+    pub each_list : All (IsTagList receiver.tag_length (length ys)) (dealt_lists receiver sender placed ys)
+    each_list = subst (λ (g : ℕ). All (IsTagList g (length ys)) (dealt_lists receiver sender placed ys)) (sym pair.tag_length) lists_are.each
 
     lists_due : Takes lists tag_script (sends (layout done_frame) over)
     lists_due =
-        let all : List (List (List ℕ)) = lists_for receiver sender placed ys in
+        let all : List (List (List ℕ)) = dealt_lists receiver sender placed ys in
         let each : AllByRecursion (IsTagList receiver.tag_length (length ys)) all = recursion_from_All (IsTagList receiver.tag_length (length ys)) all each_list in
         let many : length all ≡ 3 + receiver.stash = lists_are.size ∙ ap (λ (stash : ℕ). 3 + stash) (sym pair.stash) in
         lists_taken receiver.tag_length (length ys) 0 (3 + receiver.stash) all many each
@@ -159,11 +154,11 @@ module _ (receiver : ReceiverDeal) (sender : SenderDeal) (placed : List Placed) 
     unfolding opened_columns sender_stream lists_stream
     answer_is =
         let hello : List ℕ = layout second_hello in
-        let tags : List ℕ = layouts (lists_frames 0 (lists_for receiver sender placed ys)) in
+        let tags : List ℕ = layouts (lists_frames 0 (dealt_lists receiver sender placed ys)) in
         let whole : hello ++ tags ≡ hello ++ answer =
         opened_columns_answer sender count sent ys is'.choice is'.count (are_columns (rows_for sender.stash count) sent sent_set) in
         sym (drop_at hello answer (length hello) refl) ∙ ap (drop (length hello)) (sym whole) ∙ drop_at hello tags (length hello) refl
-        ∙ sym (lists_list-bytes 0 (lists_for receiver sender placed ys))
+        ∙ sym (lists_list-bytes 0 (dealt_lists receiver sender placed ys))
 
     plays_end : Plays end_moves (goes_on false (sends (layout done_frame) over)) (record { owes = []; next = awaits_done; is_new = false })
     plays_end = (
@@ -180,7 +175,7 @@ module _ (receiver : ReceiverDeal) (sender : SenderDeal) (placed : List Placed) 
     plays_columns =
         let rest : EndState = goes_on false tag_script in
         first_sends columns list_moves (layouts (column_frames 0 sent) ++ rest.owes) rest.owes rest.next rest.is_new (opens_columns sender ys count [] chosen) (opens_columns sender ys count opened [])
-        (ap (λ (xs : List ℕ). xs ++ rest.owes) (sym (columns_from-bytes 0 sent))) (columns_taken sender ys count [] chosen sent same_many columns_due) plays_lists
+        refl (columns_taken sender ys count [] chosen sent same_many columns_due) plays_lists
 
     pub plays_session : Plays session_moves (goes_on true (receiver_script receiver placed)) (goes_on true (sender_script sender ys))
     unfolding receiver_script

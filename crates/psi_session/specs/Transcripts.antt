@@ -14,8 +14,3 @@ Hearing Transcript = Transcript → List ℕ → Type 0
 abbrev pub HearsOn : {Transcript : Type 0} → Hearing Transcript → Hearing Transcript → List ℕ → Type 0
 HearsOn {Transcript} old new bytes =
     (first : Transcript) (before : List ℕ) → old first before → new first (before ++ bytes)
-
--- the lists of tags that the sender makes of the masked columns of a receiver's placed items
-abbrev pub lists_for : ReceiverDeal → SenderDeal → List Placed → List (List ℕ) → List (List (List ℕ))
-lists_for receiver sender placed ys =
-    tag_lists sender.stash (sender_side sender (length placed) (dealt_masked receiver placed)) ys

@@ -5,7 +5,8 @@ ghost use Rattle.psi_spec.specs.Limits.{limit_items};
 ghost use Rattle.psi_spec.specs.Sessions.{session_bytes};
 ghost use Rattle.psi_receiver.specs.Receiving.{hits_of};
 ghost use Rattle.psi_receiver.specs.Running.{IsNewReceiver};
-ghost use Rattle.psi_session.specs.Transcripts.{HearsOn, lists_for};
+ghost use Rattle.psi_session.specs.Transcripts.{HearsOn};
+ghost use Rattle.psi_spec.specs.Sessions.{dealt_lists};
 
 use crate::playing::play;
 use crate::transcript::Transcript;
@@ -34,7 +35,7 @@ pub fn exchange<T: Transcript>(
     requires few_of_receiver { length receiver.old.placed ≤ limit_items }
     requires few_of_sender { length sender.old.items ≤ limit_items }
     ensures shown { OnOk result (receiver.new.shown ≡ hits_of receiver.old.deal receiver.old.placed
-        (lists_for receiver.old.deal sender.old.deal receiver.old.placed sender.old.items)) }
+        (dealt_lists receiver.old.deal sender.old.deal receiver.old.placed sender.old.items)) }
     ensures heard { OnOk result (HearsOn (T.hears transcript.old) (T.hears transcript.new)
         (session_bytes receiver.old.deal sender.old.deal receiver.old.placed sender.old.items)) }
 {
