@@ -7,10 +7,11 @@ use crate::arrays::array_at;
 use crate::columns::fill_stream;
 use crate::errors::BadDeal;
 use crate::head::Head;
-use crate::judging::judge_lengths;
+use crate::judging::{judge_lengths, judged_tag_length};
 use crate::receiver::ReceiverDeal;
 use crate::seeds::{chosen_seeds, pairs_in};
 use crate::sender::SenderDeal;
+use psi_base::TagLength;
 use psi_bits::Word512;
 use std::alloc::{AllocError, Global};
 
@@ -34,7 +35,7 @@ fn dealt_bytes(alloc: Global, seed: &[u8; 32]) -> Result<Vec<u8>, AllocError>
 /// The pair of deals of a seed, for a session, tags of `tag_length` bytes and a stash of `stash`
 /// rows.
 ///
-/// `TagBytes` where `tag_length` is 0 or above 16, else `StashRows` where `stash` is above
+/// `TagBytes` where `tag_length` is 0 or above `psi_base::TAG_LIMIT`, else `StashRows` where `stash` is above
 /// `psi_base::STASH_LIMIT`. `NoMemory` comes where memory is wanting.
 pub fn deal(
     alloc: Global,
@@ -53,6 +54,7 @@ pub fn deal(
     if let Some(bad) = judge_lengths(tag_length, stash) {
         return Err(bad);
     }
+    let tag_length = judged_tag_length(tag_length);
     dealt(alloc, seed, session, tag_length, stash).map_err(|_| BadDeal::NoMemory)
 }
 
@@ -61,7 +63,7 @@ fn dealt(
     alloc: Global,
     seed: &[u8; 32],
     session: u64,
-    tag_length: u8,
+    tag_length: TagLength,
     stash: u8,
 ) -> Result<(ReceiverDeal, SenderDeal), AllocError>
     requires { bad_request tag_length stash ≡ None }
@@ -81,7 +83,7 @@ fn dealt(
     };
     let receiver = ReceiverDeal { head, pairs };
     let sender = SenderDeal {
-        head,
+        head: receiver.head,
         choice,
         seeds,
     };

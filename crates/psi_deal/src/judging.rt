@@ -1,5 +1,5 @@
 // What is wrong with the bytes of a deal file.
-ghost use Rattle.std.specs.Prelude.{◌≡◌, ◌≤◌, ◌<◌, ◌^◌, length};
+ghost use Rattle.std.specs.Prelude.{◌≡◌, ◌≤◌, ◌<◌, ◌^◌, length, true};
 ghost use Rattle.psi_spec.specs.Deals.{fits_tag_length as tag_length_fits, fits_stash as stash_fits};
 ghost use Rattle.psi_spec.specs.DealFiles.{has_magic as magic_of, has_other as other_at, is_sealed as sealed_by};
 ghost use Rattle.psi_deal.specs.Roles.{role_byte, role_size};
@@ -8,7 +8,7 @@ ghost use Rattle.psi_deal.specs.BadDeals.{bad_deal, bad_request, has_above as ab
 use crate::errors::BadDeal;
 use crate::head::VERSION;
 use crate::role::Role;
-use psi_base::STASH_LIMIT;
+use psi_base::{STASH_LIMIT, TagLength};
 use sha2::{Digest, Sha256};
 
 /// Whether bytes begin with `PSID`.
@@ -46,7 +46,15 @@ pub fn is_sealed(bytes: &[u8]) -> bool
 pub fn fits_tag_length(tag_length: u8) -> bool
     ensures { result ≡ tag_length_fits tag_length }
 {
-    (1..=16).contains(&tag_length)
+    TagLength::new(tag_length).is_some()
+}
+
+/// The length of a tag of so many bytes, as many as one can have.
+pub fn judged_tag_length(tag_length: u8) -> TagLength
+    requires { tag_length_fits tag_length ≡ true }
+    ensures { result ≡ tag_length }
+{
+    TagLength::new(tag_length).unwrap()
 }
 
 // Whether a stash can have so many rows.

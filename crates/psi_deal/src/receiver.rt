@@ -8,6 +8,7 @@ ghost use Rattle.psi_deal.specs.Pairs.{pairs_of};
 use crate::columns::fill_column;
 use crate::head::Head;
 use crate::seeds::SeedPair;
+use psi_base::TagLength;
 use psi_bits::Columns;
 use std::marker::Model;
 
@@ -54,11 +55,9 @@ impl ReceiverDeal {
         &self.head.key
     }
 
-    /// The length of a tag in bytes: 1 to 16.
-    pub fn width(&self) -> u8
-        ensures width { result ≡ self.now.tag_length }
-        ensures least { 1 ≤ result }
-        ensures most { result ≤ 16 }
+    /// The length of a tag.
+    pub fn tag_length(&self) -> TagLength
+        ensures { result ≡ self.now.tag_length }
     {
         self.head.tag_length
     }

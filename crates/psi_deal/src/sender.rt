@@ -6,6 +6,7 @@ ghost use Rattle.psi_spec.specs.Deals.{sender_columns};
 
 use crate::columns::fill_column;
 use crate::head::Head;
+use psi_base::TagLength;
 use psi_bits::{Columns, Word512};
 use std::marker::Model;
 
@@ -54,11 +55,9 @@ impl SenderDeal {
         &self.head.key
     }
 
-    /// The length of a tag in bytes: 1 to 16.
-    pub fn width(&self) -> u8
-        ensures width { result ≡ self.now.tag_length }
-        ensures least { 1 ≤ result }
-        ensures most { result ≤ 16 }
+    /// The length of a tag.
+    pub fn tag_length(&self) -> TagLength
+        ensures { result ≡ self.now.tag_length }
     {
         self.head.tag_length
     }

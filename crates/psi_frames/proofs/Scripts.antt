@@ -180,7 +180,7 @@ dialogue-goes_on new script = λ i. record {
 pub within_more : (script : Script) (n m : ℕ) → n ≤ m → IsWithin n script → IsWithin m script
 within_more over n m few h = tt
 within_more (sends out rest) n m few h = within_more rest n m few h
-within_more (awaits e next) n m few h = (let some = h.0 in omega arith, h.1, h.2, λ f valid. within_more (next f) (n - 1) (m - 1) (omega arith) (h.3 f valid))
+within_more (awaits e next) n m few h = (let some = h.0 in omega arith, h.1, λ f valid. within_more (next f) (n - 1) (m - 1) (omega arith) (h.2 f valid))
 
 -- the frames that an end awaits which begins with a script are those of that script
 pub read-goes_on : (new : Bool) (script : Script) (frames : List Frame) (taken : List ℕ) → IsRead (script_of (goes_on new script)) frames taken → IsRead script frames taken

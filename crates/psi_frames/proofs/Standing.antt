@@ -424,8 +424,8 @@ module _ {X : Type 0} (first keeps : Keeps X) (known : Known) (script : Script) 
             d.lent ∙ ap (with_lent e) h.box_is
             ∙ ap (λ (n : ℕ). record { room = inbox_room; held = []; offset = n; refused = None }) (sym (length-append h.taken part ∙ ap (λ (n : ℕ). length h.taken + n) d.valid.long));
         fresh = λ is. absurd (let not : false ≡ true = sym (new-goes_on false rest) ∙ is in cc);
-        few = within-goes_on false rest (left - 1) (few.3 f d.valid);
-        long = let room = few.2 in omega (arith, h.long, d.valid.long, length-append h.taken part, room);
+        few = within-goes_on false rest (left - 1) (few.2 f d.valid);
+        long = let room = few.1 in omega (arith, h.long, d.valid.long, length-append h.taken part, room);
         wire = h.wire ++ part;
         on_wire = λ frames.
             ap (wire_for script) (append_assoc h.frames (f ∷ []) frames) ∙ h.on_wire (f ∷ frames)

@@ -4,7 +4,7 @@ use Rattle.std.specs.Option.{option_map_or}
 use Rattle.psi_frames.specs.declared.expect.Expect.{Expect}
 use Rattle.psi_frames.specs.declared.frame.Frame.{Frame}
 use Rattle.psi_frames.specs.declared.reasons.BadFrame.{BadFrame}
-use Rattle.psi_frames.specs.Expected.{FitsFloor, IsBegun, IsWhole, frame_length, seen, wrong}
+use Rattle.psi_frames.specs.Expected.{IsBegun, IsWhole, frame_length, seen, wrong}
 
 -- an outbox: the bytes that are to be sent, how many more may be added now, and how many may be when none is to be sent
 pub record OutboxState : Type 0 where
@@ -43,10 +43,9 @@ pub record IsRefusal (box : InboxState) (e : Expect) (bad : BadFrame) : Type 0 w
   pub first : wrong e box.held ≡ Some bad.reason
   pub place : bad.offset ≡ box.offset
 
--- a call may expect this frame: its tags fit their floor, it fits the room and ends at a place below 2 ^ 64, no more is
--- held than it has, and what was refused, if anything, is this frame
+-- a call may expect this frame: it fits the room and ends at a place below 2 ^ 64, no more is held than it has, and
+-- what was refused, if anything, is this frame
 pub record MayExpect (box : InboxState) (e : Expect) : Type 0 where
-  pub floor : FitsFloor e
   pub room : frame_length e ≤ box.room
   pub offset : box.offset + frame_length e < 2 ^ 64
   pub held : length box.held ≤ frame_length e

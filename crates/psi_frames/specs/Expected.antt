@@ -1,6 +1,6 @@
 -- The one frame that may come next: its fields in order, and what is wrong with bytes in its place. What each kind has
 -- stands in the file of its kind.
-use Rattle.std.specs.Prelude.{◌≡◌, ◌+◌, ◌<◌, ◌≤◌, ℕ, List, [], ◌∷◌, length, drop, Option, None, ⊤}
+use Rattle.std.specs.Prelude.{◌≡◌, ◌+◌, ◌<◌, ℕ, List, [], ◌∷◌, length, drop, Option, None}
 use Rattle.psi_spec.specs.Frames.{Field, Fits, first_wrong, layout}
 use Rattle.psi_spec.specs.Frames as spec
 use Rattle.psi_frames.specs.declared.expect.Expect.{Expect}
@@ -19,7 +19,7 @@ abbrev pub kind_of : Expect → ℕ
 kind_of (expect.ReceiverHello id session) = receiver_hello_kind
 kind_of (expect.SenderHello id session) = sender_hello_kind
 kind_of (expect.Column index rows) = column_kind
-kind_of (expect.Tags list block tags width floor) = tags_kind
+kind_of (expect.Tags list block tags tag_length floor) = tags_kind
 kind_of expect.Done = done_kind
 
 -- the length of its payload
@@ -27,24 +27,19 @@ abbrev pub payload_of : Expect → ℕ
 payload_of (expect.ReceiverHello id session) = hello_length
 payload_of (expect.SenderHello id session) = hello_length
 payload_of (expect.Column index rows) = column_length rows
-payload_of (expect.Tags list block tags width floor) = tags_length tags width
+payload_of (expect.Tags list block tags tag_length floor) = tags_length tags tag_length
 payload_of expect.Done = done_length
 
 -- the length of the whole frame
 abbrev pub frame_length : Expect → ℕ
 frame_length e = 5 + payload_of e
 
--- expected tags are no longer than their floor, which has 16 bytes
-abbrev pub FitsFloor : Expect → Type 0
-FitsFloor (expect.Tags list block tags width floor) = width ≤ 16
-FitsFloor e = ⊤
-
 -- the fields of a payload
 abbrev pub payload_fields : Expect → List (Field Reason)
 payload_fields (expect.ReceiverHello id session) = hello_fields id session
 payload_fields (expect.SenderHello id session) = hello_fields id session
 payload_fields (expect.Column index rows) = column_fields index rows
-payload_fields (expect.Tags list block tags width floor) = tags_fields list block tags width floor
+payload_fields (expect.Tags list block tags tag_length floor) = tags_fields list block tags tag_length floor
 payload_fields expect.Done = []
 
 -- all fields, in the order in which they are judged
@@ -68,7 +63,7 @@ abbrev pub payload_frame : Expect → List ℕ → spec.Frame
 payload_frame (expect.ReceiverHello id session) payload = spec.receiver_hello id session (count_in payload)
 payload_frame (expect.SenderHello id session) payload = spec.sender_hello id session (count_in payload)
 payload_frame (expect.Column index rows) payload = spec.column_frame index (drop 2 payload)
-payload_frame (expect.Tags list block tags width floor) payload = spec.tags_frame list block (drop 5 payload)
+payload_frame (expect.Tags list block tags tag_length floor) payload = spec.tags_frame list block (drop 5 payload)
 payload_frame expect.Done payload = spec.done_frame
 
 -- the frame that bytes hold, where it is the expected one

@@ -24,12 +24,14 @@ OrderBySorting =
 -- a tag of several, by its place
 abbrev pub TagsByPlace : Type 0
 TagsByPlace =
-    (count width : ℕ) (bytes : List ℕ) (k : ℕ) → k < count
-    → slice_index_or (tags_of count width bytes) k [] ≡ take width (drop (k * width) bytes)
+    (count tag_length : ℕ) (bytes : List ℕ) (k : ℕ) → k < count
+    → slice_index_or (tags_of count tag_length bytes) k [] ≡ take tag_length (drop (k * tag_length) bytes)
 
 -- no tag is below zeros: after them, as before a first block, the first tag is in order
 abbrev pub NoneBelowZeros : Type 0
-NoneBelowZeros = (width : ℕ) (tag : List ℕ) → length tag ≡ width → is_below tag (replicate width 0) ≡ false
+NoneBelowZeros =
+    (tag_length : ℕ) (tag : List ℕ) → length tag ≡ tag_length
+    → is_below tag (replicate tag_length 0) ≡ false
 
 -- a field that is wrong is the first wrong one, whatever follows
 abbrev pub WrongStays : Type 0

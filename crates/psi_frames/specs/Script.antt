@@ -7,7 +7,7 @@ use Rattle.psi_frames.specs.declared.expect.Expect.{Expect}
 use Rattle.psi_frames.specs.declared.reasons.Reason.{Reason}
 use Rattle.psi_frames.specs.declared.turns.Turn.{Turn}
 use Rattle.psi_frames.specs.declared.turns.Turn.TheVariants as turn
-use Rattle.psi_frames.specs.Expected.{FitsFloor, IsValid, frame_at, frame_length, wrong}
+use Rattle.psi_frames.specs.Expected.{IsValid, frame_at, frame_length, wrong}
 use Rattle.psi_frames.specs.Dialogue.{Dialogue, Reading, good, bad, short}
 
 -- what one end of a session does: it sends bytes, awaits a frame of the peer, or is done
@@ -102,7 +102,7 @@ abbrev pub IsWithin : ℕ → Script → Type 0
 IsWithin n over = ⊤
 IsWithin n (sends out rest) = IsWithin n rest
 IsWithin n (awaits e next) =
-    (0 < n) × FitsFloor e × (frame_length e ≤ inbox_room) × ((f : Frame) → IsValid e f → IsWithin (n - 1) (next f))
+    (0 < n) × (frame_length e ≤ inbox_room) × ((f : Frame) → IsValid e f → IsWithin (n - 1) (next f))
 
 -- an end in the middle of its script: the bytes that it owes, what it does after them, which is that it awaits a frame
 -- or is done, and whether it took no frame yet

@@ -16,8 +16,8 @@ HasParts (expect.ReceiverHello id session) (spec.receiver_hello deal number item
 HasParts (expect.SenderHello id session) (spec.sender_hello deal number items) =
     IsHelloOf id session deal number items
 HasParts (expect.Column index rows) (spec.column_frame place bytes) = IsColumnOf index rows place bytes
-HasParts (expect.Tags list block tags width floor) (spec.tags_frame of_list of_block bytes) =
-    AreTagsOf list block tags width floor of_list of_block bytes
+HasParts (expect.Tags list block tags tag_length floor) (spec.tags_frame of_list of_block bytes) =
+    AreTagsOf list block tags tag_length floor of_list of_block bytes
 HasParts expect.Done spec.done_frame = ⊤
 HasParts e f = ⊥
 

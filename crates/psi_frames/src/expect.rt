@@ -1,8 +1,8 @@
-// The one frame that may come next, and how its payload is judged and read. What each kind has stands in the file of its
-// kind.
+// The one frame that may come next, and how its payload is judged and read. What each kind has stands in the file of
+// its kind.
 ghost use Rattle.std.specs.Prelude.{◌≡◌, length};
 ghost use Rattle.psi_spec.specs.Frames.{first_wrong};
-ghost use Rattle.psi_frames.specs.Expected.{FitsFloor, frame_length, kind_of, payload_fields, payload_frame as spec_frame, payload_of, seen};
+ghost use Rattle.psi_frames.specs.Expected.{frame_length, kind_of, payload_fields, payload_frame as spec_frame, payload_of, seen};
 
 use crate::column::{COLUMN, column_bytes, wrong_column};
 use crate::done::DONE;
@@ -11,6 +11,7 @@ use crate::header::HEADER_LENGTH;
 use crate::hello::{HELLO_LENGTH, RECEIVER_HELLO, SENDER_HELLO, count_of, wrong_hello};
 use crate::reasons::Reason;
 use crate::tags::{TAGS, wrong_tags};
+use psi_base::TagLength;
 
 /// The one frame that may come next.
 #[derive(Clone, Copy, Debug, PartialEq, Eq)]
@@ -30,13 +31,13 @@ pub enum Expect {
         index: u16,
         rows: u32,
     },
-    /// A block of a list: so many tags of `width` bytes, which is at most 16. `floor` is the last tag of the
-    /// block before it with zeros behind it, and all zeros where there is none.
+    /// A block of a list: so many tags of this length. `floor` is the last tag of the block before it with zeros
+    /// behind it, and all zeros where there is none.
     Tags {
         list: u8,
         block: u32,
         tags: u16,
-        width: u8,
+        tag_length: TagLength,
         floor: [u8; 16],
     },
     /// The end of the session.
@@ -64,7 +65,11 @@ impl Expect {
         match self {
             Expect::ReceiverHello { .. } | Expect::SenderHello { .. } => HELLO_LENGTH as u32,
             Expect::Column { rows, .. } => 2 + column_bytes(*rows),
-            Expect::Tags { tags, width, .. } => 5 + u32::from(*tags) * u32::from(*width),
+            Expect::Tags {
+                tags,
+                tag_length,
+                ..
+            } => 5 + u32::from(*tags) * u32::from(tag_length.get()),
             Expect::Done => 0,
         }
     }
@@ -79,7 +84,6 @@ impl Expect {
 
 /// What is wrong with a payload.
 pub(crate) fn wrong_payload(expect: &Expect, payload: &[u8]) -> Option<Reason>
-    requires { FitsFloor expect.now }
     ensures { result ≡ first_wrong (payload_fields expect.now) payload.now }
 {
     match expect {
@@ -91,9 +95,9 @@ pub(crate) fn wrong_payload(expect: &Expect, payload: &[u8]) -> Option<Reason>
             list,
             block,
             tags,
-            width,
+            tag_length,
             floor,
-        } => wrong_tags(*list, *block, *tags, *width, floor, payload),
+        } => wrong_tags(*list, *block, *tags, *tag_length, floor, payload),
         Expect::Done => None,
     }
 }

@@ -1,7 +1,7 @@
-// Bytes in the place of an expected frame: each field is judged, in order, once its last byte is there, and the frame is
-// read where it is whole. No kind of frame is known here.
+// Bytes in the place of an expected frame: each field is judged, in order, once its last byte is there, and the frame
+// is read where it is whole. No kind of frame is known here.
 ghost use Rattle.std.specs.Prelude.{◌≡◌, length, None};
-ghost use Rattle.psi_frames.specs.Expected.{FitsFloor, IsWhole, frame_length, seen, wrong};
+ghost use Rattle.psi_frames.specs.Expected.{IsWhole, frame_length, seen, wrong};
 
 use crate::expect::{Expect, payload_frame, wrong_payload};
 use crate::frame::Frame;
@@ -12,7 +12,6 @@ use crate::reasons::Reason;
 /// there.
 #[tactic(auto, unfolding(crate::specs::Expected::wrong))]
 pub(crate) fn first_fault(expect: &Expect, bytes: &[u8]) -> Option<Reason>
-    requires { FitsFloor expect.now }
     ensures { result ≡ wrong expect.now bytes.now }
 {
     let (kind, rest) = bytes.split_first()?;

@@ -294,9 +294,6 @@ fn check(
     answer: Result<Option<Frame<'_>>, BadFrame>,
 ) -> Result<(), Fail> {
     assert!(rt; expect.payload() <= INBOX_ROOM - 5, "{name}: too long");
-    if let Expect::Tags { width, .. } = expect {
-        assert!(rt; *width <= 16, "{name}: tags too long");
-    }
     let mut inbox = Inbox::with_room(alloc, INBOX_ROOM)?;
     assert_eq!(rt; inbox.feed(expect, fed), taken, "{name}");
     assert_eq!(rt; inbox.next(expect), answer, "{name}");

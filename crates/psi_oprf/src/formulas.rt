@@ -5,10 +5,11 @@ ghost use Rattle.psi_spec.specs.Bits.{xor, both};
 ghost use Rattle.psi_spec.specs.Formulas.{bin, code as code_of, code_half, tag, padded_tag};
 ghost use Rattle.psi_oprf.specs.Candidates.{bin_in as bin_in_of, bins_in as bins_in_of, digest_candidates};
 
+use psi_base::TagLength;
 use psi_bits::Word512;
 use sha2::{Digest, Sha256};
 
-/// A tag of 1 to 16 bytes, with zeros behind them.
+/// A tag, with zeros behind its bytes.
 pub type Tag = [u8; 16];
 
 // One of the two halves, 0 or 1, of a code.
@@ -115,31 +116,27 @@ pub fn tag_into(key: &[u8; 16], row: u32, word: &Word512, out: &mut [u8])
     out.copy_from_slice(&hash[..out.len()]);
 }
 
-/// The tag, of `width` bytes from 1 to 16, of the receiver's own word `t` at a row.
+/// The tag, of this length, of the receiver's own word `t` at a row.
 #[tactic(auto, unfolding(psi_spec::specs::Formulas::padded_tag))]
-pub fn own_tag(key: &[u8; 16], width: u8, row: u32, t: &Word512) -> Tag
-    requires least { 1 ≤ width }
-    requires most { width ≤ 16 }
-    ensures { result ≡ padded_tag key.now width row t.now }
+pub fn own_tag(key: &[u8; 16], tag_length: TagLength, row: u32, t: &Word512) -> Tag
+    ensures { result ≡ padded_tag key.now tag_length row t.now }
 {
     let mut tag = [0; 16];
-    tag_into(key, row, t, &mut tag[..usize::from(width)]);
+    tag_into(key, row, t, &mut tag[..usize::from(tag_length.get())]);
     tag
 }
 
-/// The tag, of `width` bytes from 1 to 16, of the word that a code makes of the sender's word `q`
-/// at a row: `q` with the bits flipped that both the choice word and the code have.
+/// The tag, of this length, of the word that a code makes of the sender's word `q` at a row: `q` with the bits
+/// flipped that both the choice word and the code have.
 pub fn peer_tag(
     key: &[u8; 16],
-    width: u8,
+    tag_length: TagLength,
     row: u32,
     q: &Word512,
     choice: &Word512,
     code: &Word512,
 ) -> Tag
-    requires least { 1 ≤ width }
-    requires most { width ≤ 16 }
-    ensures { result ≡ padded_tag key.now width row (xor q.now (both choice.now code.now)) }
+    ensures { result ≡ padded_tag key.now tag_length row (xor q.now (both choice.now code.now)) }
 {
-    own_tag(key, width, row, &q.xor(&choice.and(code)))
+    own_tag(key, tag_length, row, &q.xor(&choice.and(code)))
 }

@@ -1,6 +1,6 @@
 -- Deals: what the receiver and the sender hold, the two deals that a dealer makes of one seed, and when two are a pair.
 use Rattle.std.specs.Prelude.{◌≡◌, ◌^◌, ◌<◌, ℕ, ◌+◌, ◌==◌, ◌&&◌, Bool, true, List, [], ◌∷◌, length, slice_index_or, take, drop, map, All, nat_le, zero, suc, if◌then◌else◌}
-use Rattle.psi_spec.specs.Limits.{stash_limit}
+use Rattle.psi_spec.specs.Limits.{stash_limit, tag_limit}
 use Rattle.psi_spec.specs.Bits.{bit_of}
 use Rattle.psi_spec.specs.Columns.{key_stream, column}
 
@@ -36,7 +36,7 @@ HasSeeds pair = (length pair.zero ≡ 32) × (length pair.one ≡ 32)
 
 -- a tag has 1 to 16 bytes
 abbrev pub fits_tag_length : ℕ → Bool
-fits_tag_length n = nat_le 1 n && nat_le n 16
+fits_tag_length n = nat_le 1 n && nat_le n tag_limit
 
 -- the stash has at most 16 rows
 abbrev pub fits_stash : ℕ → Bool

@@ -17,6 +17,10 @@ file_limit = 33554432
 abbrev pub record_limit : ℕ
 record_limit = 536870912
 
+-- the most bytes of a tag
+abbrev pub tag_limit : ℕ
+tag_limit = 16
+
 -- the most rows of the stash
 abbrev pub stash_limit : ℕ
 stash_limit = 16

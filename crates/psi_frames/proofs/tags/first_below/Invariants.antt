@@ -6,6 +6,6 @@ use Rattle.psi_frames.proofs.tags.first_below.Given as goal
 -- the first of the tags that are left is the first of all
 abbrev pub invariant-loop-at : goal.invariant-loop-at
 invariant-loop-at l = record {
-  long : length l.rest ≡ (l.count - l.at) * l.width;
-  first : below_from l.at l.before (spec.tags_of (l.count - l.at) l.width l.rest) ≡ spec.first_below l.floor (spec.tags_of l.count l.width l.tags);
+  long : length l.rest ≡ (l.count - l.at) * l.tag_length;
+  first : below_from l.at l.before (spec.tags_of (l.count - l.at) l.tag_length l.rest) ≡ spec.first_below l.floor (spec.tags_of l.count l.tag_length l.tags);
 }

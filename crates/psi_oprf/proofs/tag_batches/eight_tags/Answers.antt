@@ -9,7 +9,7 @@ unfolding padded_tag tag
 returns c =
     let rows = c.args.rows.now in
     let words = c.args.words.now in
-    let width = c.args.width in
+    let width = c.args.tag_length in
     let formula = padded_tag c.args.key.now width in
     let out = c.put_fronts.new.tags in
     let as_many = c.requires.rows ∙ sym c.requires.words in

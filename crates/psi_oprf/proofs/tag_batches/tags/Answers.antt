@@ -7,7 +7,7 @@ use Rattle.psi_oprf.proofs.tag_batches.tags.Goals as goal
 
 pub returns : goal.returns
 returns c =
-    let formula = padded_tag c.args.key.now c.args.width in
+    let formula = padded_tag c.args.key.now c.args.tag_length in
     let rows = c.args.rows.now in
     let words = c.args.words.now in
     let eights = length c.args.out.now / 8 * 8 in

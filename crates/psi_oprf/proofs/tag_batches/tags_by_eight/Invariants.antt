@@ -5,4 +5,4 @@ use Rattle.psi_oprf.proofs.tag_batches.tags_by_eight.Given as goal
 
 -- the tags so far
 abbrev pub invariant-loop-turn : goal.invariant-loop-turn
-invariant-loop-turn l = take (8 * l.turn) l.out ≡ zip2 (padded_tag l.key l.width) (take (8 * l.turn) l.rows) (take (8 * l.turn) l.words)
+invariant-loop-turn l = take (8 * l.turn) l.out ≡ zip2 (padded_tag l.key l.tag_length) (take (8 * l.turn) l.rows) (take (8 * l.turn) l.words)
