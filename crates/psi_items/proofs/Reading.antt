@@ -1,5 +1,5 @@
 -- The reading of a file, one line more at a time.
-use Rattle.std.proofs.Common.{◌≡◌, ◌∙◌, sym, ap, ap₂, refl, ℕ, ◌+◌, ◌<◌, List, [], ◌∷◌, ◌++◌, Bool, true, false, not, cond, ◌&&◌, nat_lt, nat_eq, map, length, take, drop, get_or, eqb, Option, Some, None, Result, Ok, Err, arith}
+use Rattle.std.proofs.Common.{◌≡◌, ◌∙◌, sym, ap, ap₂, refl, ℕ, ◌+◌, ◌<◌, ◌≤◌, List, [], ◌∷◌, ◌++◌, Bool, true, false, not, cond, ◌&&◌, nat_lt, nat_eq, map, length, take, drop, get_or, eqb, Option, Some, None, Result, Ok, Err, arith}
 use Rattle.std.specs.List.{filter, find, list_any}
 use Rattle.std.specs.Char.{to_ascii_lowercase}
 use Rattle.std.specs.Str.{bytes_eq}
@@ -7,12 +7,12 @@ use Rattle.std.specs.Str.Lines.{strip_carriage_return}
 use Rattle.std.specs.Option.{option_map_or, option_map}
 use Rattle.std.proofs.lemmas.List.{append-nil, length-map, map-append, take_more, drop_more, length-take-le, take_all, drop_all}
 use Rattle.std.proofs.lemmas.List.Elements.{filter-append}
-use Rattle.std.proofs.lemmas.Bool.{eq-eqb, ne_eqb, lt-ltb, cond-true}
+use Rattle.std.proofs.lemmas.Bool.{eq-eqb, ne_eqb, lt-ltb, le-ltb, cond-true}
 use Rattle.psi_spec.specs.Limits.{limit_items, line_limit}
 use Rattle.psi_spec.specs.Items.{holds_byte, is_long, is_too_many, is_control, trimmed, fault_of_item, normal, distinct, items_of_lines, lines_of, LineFault, BadLine, fault_of, first_bad, first_bad_after}
 use Rattle.psi_items.specs.declared.errors.BadItems.{BadItems}
 use Rattle.psi_items.specs.declared.errors.BadItems.TheVariants.{Byte, Long, Many, NoMemory}
-use Rattle.psi_items.specs.Reading.{with_item, with_line, refusal_of, bad_items_of, AddsItem, AddsLine, ReadsItems}
+use Rattle.psi_items.specs.Reading.{with_item, with_line, refusal_of, bad_items_of, own_fault, AddsItem, AddsLine, ReadsItems}
 use Rattle.psi_items.proofs.Distinct.{distinct-push}
 
 -- the distinct elements of a list with one more at its end, where it is not empty
@@ -30,12 +30,7 @@ items_of_lines-push lines line =
     ∙ ap distinct (filter-append some (map normal lines) (normal line ∷ []))
     ∙ distinct_with (filter some (map normal lines)) (normal line) (eqb (length (normal line)) 0)
 
--- the fault of a line with a control byte
-pub fault_of-byte : (items : List (List ℕ)) (line : List ℕ) (found : ℕ) → Some found ≡ find is_control (strip_carriage_return line) → fault_of items line ≡ Some (holds_byte found)
-unfolding fault_of
-fault_of-byte items line found first = ap (λ byte. option_map_or (λ b. Some (holds_byte b)) byte (fault_of_item items (normal line))) (sym first)
-
--- the fault of a line without one
+-- the fault of a line without a control byte
 pub fault_of-clean : (items : List (List ℕ)) (line : List ℕ) → None ≡ find is_control (strip_carriage_return line) → fault_of items line ≡ fault_of_item items (normal line)
 unfolding fault_of
 fault_of-clean items line none = ap (λ byte. option_map_or (λ b. Some (holds_byte b)) byte (fault_of_item items (normal line))) (sym none)
@@ -48,6 +43,59 @@ normal-text line text same = ap (map to_ascii_lowercase) (sym same)
 -- its length
 pub length-normal : (line text : List ℕ) → text ≡ trimmed (strip_carriage_return line) → length (normal line) ≡ length text
 length-normal line text same = ap length (normal-text line text same) ∙ length-map text to_ascii_lowercase
+
+-- ---- a line's own fault
+
+-- the fault of a line with a control byte, by what else it would have
+abbrev pub byte_or : Option ℕ → Option LineFault → Option LineFault
+byte_or found other = option_map_or (λ b. Some (holds_byte b)) found other
+
+-- a refusal for the line itself is one whatever else it would have
+pub own_refusal : (g : LineFault → BadItems) (found : Option ℕ) (long : Bool) (n : ℕ) (other : Option LineFault) (bad : BadItems)
+    → option_map g (byte_or found (cond long (Some (is_long n)) None)) ≡ Some bad → option_map g (byte_or found (cond long (Some (is_long n)) other)) ≡ Some bad
+own_refusal g (Some b) long n other bad e = e
+own_refusal g None true n other bad e = e
+own_refusal g None false n other bad e = absurd (cc)
+
+-- a line without a fault of its own has what else it would have
+pub no_own_fault : (found : Option ℕ) (long : Bool) (n : ℕ) (other : Option LineFault)
+    → byte_or found (cond long (Some (is_long n)) None) ≡ None → byte_or found (cond long (Some (is_long n)) other) ≡ other
+no_own_fault (Some b) long n other e = absurd (cc)
+no_own_fault None true n other e = absurd (cc)
+no_own_fault None false n other e = refl
+
+-- and no control byte
+no_own_byte : (found : Option ℕ) (long : Bool) (n : ℕ) → byte_or found (cond long (Some (is_long n)) None) ≡ None → None ≡ found
+no_own_byte (Some b) long n e = absurd (cc)
+no_own_byte None long n e = refl
+
+-- a line without a control byte is clean
+pub clean_line : (line : List ℕ) → own_fault line ≡ None → None ≡ find is_control (strip_carriage_return line)
+clean_line line none = no_own_byte (find is_control (strip_carriage_return line)) (nat_lt line_limit (length (normal line))) (length (normal line)) none
+
+pub own_fault-long : (line : List ℕ) → None ≡ find is_control (strip_carriage_return line) → line_limit < length (normal line) → own_fault line ≡ Some (is_long (length (normal line)))
+own_fault-long line clean long =
+    ap (λ byte. byte_or byte (cond (nat_lt line_limit (length (normal line))) (Some (is_long (length (normal line)))) None)) (sym clean)
+    ∙ cond-true _ _ _ (lt-ltb line_limit (length (normal line)) long)
+
+pub own_fault-none : (line : List ℕ) → None ≡ find is_control (strip_carriage_return line) → length (normal line) ≤ line_limit → own_fault line ≡ None
+own_fault-none line clean short =
+    ap (λ byte. byte_or byte (cond (nat_lt line_limit (length (normal line))) (Some (is_long (length (normal line)))) None)) (sym clean)
+    ∙ ap (λ (long : Bool). cond long (Some (is_long (length (normal line)))) None) (le-ltb line_limit (length (normal line)) short)
+
+-- a line that is refused for itself
+pub AddsLine-refused : (old : List (List ℕ)) (n : ℕ) (line : List ℕ) (bad : BadItems) (new : List (List ℕ))
+    → option_map (refusal_of n) (own_fault line) ≡ Some bad → AddsLine old n line (Err bad) new
+unfolding fault_of
+AddsLine-refused old n line bad new e = answer bad (own_refusal (refusal_of n) (find is_control (strip_carriage_return line)) (nat_lt line_limit (length (normal line))) (length (normal line)) _ bad e)
+  where
+    answer : (b : BadItems) → option_map (refusal_of n) (fault_of old line) ≡ Some b → AddsLine old n line (Err b) new
+    answer NoMemory h = tt
+    answer (Byte at found) h = h
+    answer (Long at count) h = h
+    answer (Many at) h = h
+
+-- ---- what a line adds
 
 -- a line whose normal form is empty gives nothing
 pub adds-nothing : (items : List (List ℕ)) (line : List ℕ) → None ≡ find is_control (strip_carriage_return line) → length (normal line) ≡ 0
@@ -65,10 +113,6 @@ adds-nothing items line clean empty = (
 pub adds-nothing-nil : (items : List (List ℕ)) → (fault_of items [] ≡ None) × (items ≡ with_line items [])
 unfolding normal
 adds-nothing-nil items = adds-nothing items [] refl refl
-
--- a line whose normal form is long
-pub fault_of-long : (items : List (List ℕ)) (line : List ℕ) → None ≡ find is_control (strip_carriage_return line) → line_limit < length (normal line) → fault_of items line ≡ Some (is_long (length (normal line)))
-fault_of-long items line clean long = fault_of-clean items line clean ∙ cond-true _ _ _ (lt-ltb line_limit (length (normal line)) long)
 
 -- another line adds its normal form
 pub AddsLine-item : (old : List (List ℕ)) (n : ℕ) (line : List ℕ) (result : Result (Unit {0}) BadItems) (new : List (List ℕ)) → None ≡ find is_control (strip_carriage_return line) → 0 < length (normal line)

@@ -1,8 +1,11 @@
 -- What the reading of a file answers.
-use Rattle.std.specs.Prelude.{◌≡◌, ℕ, ◌==◌, List, [], ◌∷◌, ◌++◌, length, Some, None, option_map, Result, Ok, Err, ⊤, if◌then◌else◌}
+use Rattle.std.specs.Prelude.{◌≡◌, ℕ, ◌==◌, List, [], ◌∷◌, ◌++◌, length, Some, None, option_map, Option, find, nat_lt, Result, Ok, Err, ⊤, if◌then◌else◌}
 use Rattle.std.specs.List.{list_any}
+use Rattle.std.specs.Option.{option_map_or}
 use Rattle.std.specs.Str.{bytes_eq}
-use Rattle.psi_spec.specs.Items.{LineFault, holds_byte, is_long, is_too_many, BadLine, first_bad, fault_of, fault_of_item, items_of, normal}
+use Rattle.std.specs.Str.Lines.{strip_carriage_return}
+use Rattle.psi_spec.specs.Limits.{line_limit}
+use Rattle.psi_spec.specs.Items.{is_control, LineFault, holds_byte, is_long, is_too_many, BadLine, first_bad, fault_of, fault_of_item, items_of, normal}
 use Rattle.psi_items.specs.declared.errors.BadItems.{BadItems}
 use Rattle.psi_items.specs.declared.errors.BadItems.TheVariants.{Byte, Long, Many, NoMemory}
 
@@ -22,6 +25,17 @@ abbrev pub ReadsItems : List ℕ → Result (List (List ℕ)) BadItems → Type 
 ReadsItems bytes (Ok items) = (first_bad bytes ≡ None) × (items ≡ items_of bytes)
 ReadsItems bytes (Err NoMemory) = ⊤
 ReadsItems bytes (Err bad) = option_map bad_items_of (first_bad bytes) ≡ Some bad
+
+-- the fault of a line, whatever stands before it
+abbrev pub own_fault : List ℕ → Option LineFault
+own_fault line =
+    option_map_or (λ byte. Some (holds_byte byte)) (find is_control (strip_carriage_return line))
+    (if nat_lt line_limit (length (normal line)) then Some (is_long (length (normal line))) else None)
+
+-- what the reading of a line answers, and its normal form
+abbrev pub ReadsLine : ℕ → List ℕ → Result (Unit {0}) BadItems → List ℕ → Type 0
+ReadsLine number line (Ok done) new = (own_fault line ≡ None) × (new ≡ normal line)
+ReadsLine number line (Err bad) new = option_map (refusal_of number) (own_fault line) ≡ Some bad
 
 -- the items with this one, at the end where it was not among them
 abbrev pub with_item : List (List ℕ) → List ℕ → List (List ℕ)

@@ -6,16 +6,13 @@ ghost use Rattle.psi_items.specs.Members.{AreItems, IsItem};
 ghost use Rattle.psi_items.specs.Reading.{ReadsItems, AddsLine, AddsItem};
 
 use crate::errors::BadItems;
-use crate::lines::{control_byte, trimmed, without_carriage_return};
+use crate::lines::NormalLine;
 use indexmap::IndexSet;
 use std::alloc::Global;
 use std::marker::Model;
 
 /// The most items of a file.
 const LIMIT_ITEMS: usize = psi_base::LIMIT_ITEMS as usize;
-
-/// The most bytes of an item.
-const LINE_LIMIT: usize = psi_base::LINE_LIMIT as usize;
 
 /// The items of a file: at most 1,048,576 distinct byte strings of 1 to 256 bytes each, in the order
 /// in which the file's lines first give them.
@@ -58,7 +55,7 @@ impl Items {
         let mut items = Items {
             set: IndexSet::new(alloc),
         };
-        let mut room = [0; LINE_LIMIT];
+        let mut room = NormalLine::empty();
         let mut number = 0;
         for line in bytes.split(|byte| *byte == b'\n') {
             number += 1;
@@ -68,12 +65,7 @@ impl Items {
     }
 
     /// Adds what the line with this number gives. Its item is made in `room`.
-    fn add_line(
-        &mut self,
-        number: u32,
-        line: &[u8],
-        room: &mut [u8; LINE_LIMIT],
-    ) -> Result<(), BadItems>
+    fn add_line(&mut self, number: u32, line: &[u8], room: &mut NormalLine) -> Result<(), BadItems>
         requires { length line.now < 2 ^ 32 }
         ensures added { AddsLine self.old number line.now result self.new }
         ensures err { OnErr result (self.new ≡ self.old) }
@@ -82,27 +74,11 @@ impl Items {
         if line.is_empty() {
             return Ok(());
         }
-        let line = without_carriage_return(line);
-        if let Some(found) = control_byte(line) {
-            return Err(BadItems::Byte {
-                line: number,
-                found,
-            });
-        }
-        let text = trimmed(line);
-        if text.is_empty() {
+        room.read(number, line)?;
+        if room.text().is_empty() {
             return Ok(());
         }
-        if text.len() > LINE_LIMIT {
-            return Err(BadItems::Long {
-                line: number,
-                length: text.len() as u32,
-            });
-        }
-        let item = &mut room[..text.len()];
-        item.copy_from_slice(text);
-        item.make_ascii_lowercase();
-        self.add_item(number, item)
+        self.add_item(number, room.text())
     }
 
     /// Adds an item of the line with this number, where it is not among the items.

@@ -13,4 +13,5 @@ mod tests;
 pub use errors::BadItems;
 pub use hashing::digest;
 pub use items::Items;
+pub use lines::NormalLine;
 pub use making::{MadeFile, make_file};

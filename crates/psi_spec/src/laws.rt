@@ -19,6 +19,7 @@ ghost use Rattle.psi_spec.specs.Laws.{
   PickedIsPlacement,
 };
 ghost use Rattle.psi_spec.specs.HidingLaws.{ChangesBits, SetsAreHidden, StreamsAreOver};
+ghost use Rattle.psi_spec.specs.PairedLaws.{ListsShowEqual, PairsFindShownLines, ListsAreHidden};
 ghost use Rattle.psi_spec.specs.SessionLaws.{
   OrderIsHidden,
   SessionsHideOrder,
@@ -153,4 +154,19 @@ pub fn changes_bits()
 pub fn sets_are_hidden()
     ensures hidden { SetsAreHidden }
     ensures over { StreamsAreOver }
+{}
+
+/// Of two lists of paired lines each line that is equal in both is shown, and each other line that is shown has equal
+/// tags. What the receiver of a pair of deals finds in its sender's values is what is shown.
+pub fn paired_lines_are_shown()
+    ensures equal { ListsShowEqual }
+    ensures found { PairsFindShownLines }
+{}
+
+/// A receiver's columns hide which of the lists of one count it has, over arbitrary column sets: the change of the
+/// columns that the sender did not choose is its own inverse, keeps those that it chose, and gives another list the
+/// same columns to send, so that every sender makes the same values; and whatever columns a sender has and gets, they
+/// come from each list over just one pair of column sets.
+pub fn paired_lines_are_hidden()
+    ensures { ListsAreHidden }
 {}
