@@ -11,6 +11,7 @@ use crate::header::HEADER_LENGTH;
 use crate::hello::{HELLO_LENGTH, RECEIVER_HELLO, SENDER_HELLO, count_of, wrong_hello};
 use crate::reasons::Reason;
 use crate::tags::{TAGS, wrong_tags};
+use crate::values::{VALUES, wrong_values};
 
 /// The one frame that may come next.
 #[derive(Clone, Copy, Debug, PartialEq, Eq)]
@@ -39,6 +40,12 @@ pub enum Expect {
         width: u8,
         floor: [u8; 16],
     },
+    /// A block of values: so many tags of `tag_length` bytes, in the order of rows.
+    Values {
+        block: u32,
+        tags: u16,
+        tag_length: u8,
+    },
     /// The end of the session.
     Done,
 }
@@ -53,6 +60,7 @@ impl Expect {
             Expect::SenderHello { .. } => SENDER_HELLO,
             Expect::Column { .. } => COLUMN,
             Expect::Tags { .. } => TAGS,
+            Expect::Values { .. } => VALUES,
             Expect::Done => DONE,
         }
     }
@@ -65,6 +73,11 @@ impl Expect {
             Expect::ReceiverHello { .. } | Expect::SenderHello { .. } => HELLO_LENGTH as u32,
             Expect::Column { rows, .. } => 2 + column_bytes(*rows),
             Expect::Tags { tags, width, .. } => 5 + u32::from(*tags) * u32::from(*width),
+            Expect::Values {
+                tags,
+                tag_length,
+                ..
+            } => 4 + u32::from(*tags) * u32::from(*tag_length),
             Expect::Done => 0,
         }
     }
@@ -94,6 +107,11 @@ pub(crate) fn wrong_payload(expect: &Expect, payload: &[u8]) -> Option<Reason>
             width,
             floor,
         } => wrong_tags(*list, *block, *tags, *width, floor, payload),
+        Expect::Values {
+            block,
+            tags,
+            tag_length,
+        } => wrong_values(*block, *tags, *tag_length, payload),
         Expect::Done => None,
     }
 }
@@ -122,6 +140,10 @@ pub(crate) fn payload_frame<'a>(expect: &Expect, payload: &'a [u8]) -> Frame<'a>
             list: *list,
             block: *block,
             bytes: &payload[5..],
+        },
+        Expect::Values { block, .. } => Frame::Values {
+            block: *block,
+            bytes: &payload[4..],
         },
         Expect::Done => Frame::Done,
     }
