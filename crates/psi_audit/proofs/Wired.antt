@@ -27,7 +27,7 @@ columns_precede : (rows c : ℕ) (us : List (List ℕ)) → rows < 2 ^ 34 → Al
 columns_precede rows c [] few all = tt
 columns_precede rows c (u ∷ us) few all =
     let size = all.0.size in
-    (record { short = omega (arith, length-column_frame c u, size); other = λ e. cc }, columns_precede rows (c + 1) us few all.1)
+    (record { short = omega (arith, length-column_frame c u, size); kind = tt }, columns_precede rows (c + 1) us few all.1)
 
 joined_few : (g : ℕ) (tags : List (List ℕ)) (b : ℕ) → g ≤ 16 → All (λ tag. length tag ≡ g) tags → length (concat (block_of tags b)) ≤ 16384
 joined_few g tags b few all =
@@ -44,7 +44,7 @@ blocks_precede : (g list : ℕ) (tags : List (List ℕ)) (bs : List ℕ) → g �
 blocks_precede g list tags [] few all = tt
 blocks_precede g list tags (b ∷ bs) few all =
     let joined = joined_few g tags b few all in
-    (record { short = omega (arith, length-tags_frame list b (concat (block_of tags b)), joined); other = λ e. cc }, blocks_precede g list tags bs few all)
+    (record { short = omega (arith, length-tags_frame list b (concat (block_of tags b)), joined); kind = tt }, blocks_precede g list tags bs few all)
 
 all-append : (P : Frame → Type 0) (xs ys : List Frame) → AllByRecursion P xs → AllByRecursion P ys → AllByRecursion P (xs ++ ys)
 all-append P [] ys h k = k
@@ -78,9 +78,9 @@ session_is_wire receiver sender placed ys own_id peer_id seeds stash tag_length 
     subst (λ (n : ℕ). IsColumnSet n columns) count
     (masked_columns_are (words_of receiver placed) (dealt_sets receiver rows) (subst (λ (n : ℕ). AreColumnSets n (dealt_sets receiver rows)) (sym count) (dealt_sets_are receiver rows seeds))) in
     let precede : AllByRecursion MayPrecede frames = (
-      record { short = omega (arith, length-receiver_hello receiver.id receiver.session (length placed) own_id); other = λ e. cc },
+      record { short = omega (arith, length-receiver_hello receiver.id receiver.session (length placed) own_id); kind = tt },
       (
-        record { short = omega (arith, length-sender_hello sender.id sender.session (length ys) peer_id); other = λ e. cc },
+        record { short = omega (arith, length-sender_hello sender.id sender.session (length ys) peer_id); kind = tt },
         all-append MayPrecede cs ls (columns_precede rows 0 columns (omega arith) (recursion_from_All (IsColumn rows) columns set.each))
             (lists_precede sender.tag_length (length ys) 0 lists tag_length (recursion_from_All (IsTagList sender.tag_length (length ys)) lists (tag_lists_are sender.stash (sender_side sender (length placed) columns) ys tag_length))),
       ),

@@ -9,12 +9,14 @@ use Rattle.psi_frames.specs.declared.expect.Expect.TheVariants as expect
 use Rattle.psi_frames.specs.Hello.{hello_fields}
 use Rattle.psi_frames.specs.Column.{column_fields}
 use Rattle.psi_frames.specs.Tags.{tags_fields}
+use Rattle.psi_frames.specs.Values.{values_fields}
 use Rattle.psi_frames.specs.Expected.{IsValid, frame_at, payload_of, wrong}
 use Rattle.psi_frames.specs.Valid.{HasParts, ValidByParts}
 use Rattle.psi_frames.proofs.Headers.{header_right}
 use Rattle.psi_frames.proofs.Hellos.{hello_right, length-hello}
 use Rattle.psi_frames.proofs.ColumnParts.{column_right}
 use Rattle.psi_frames.proofs.TagBlocks.{tags_right}
+use Rattle.psi_frames.proofs.ValueBlocks.{values_right}
 use Rattle.psi_frames.proofs.Judged.{one_frame}
 use Rattle.psi_frames.proofs.Spelled.{parts_at, whole_at}
 
@@ -31,6 +33,8 @@ valid_from_parts (expect.Column index rows) (spec.column_frame place bytes) smal
     record { long = omega (arith, parts.long); right = header_right 3 (2 + column_bytes rows) (column_fields index rows) (to_be_bytes w16 place ++ bytes) (omega (arith, parts.long)) small (column_right index rows place bytes fits parts); fits = fits; values = refl }
 valid_from_parts (expect.Tags list block tags width floor) (spec.tags_frame of_list of_block bytes) small fits parts =
     record { long = omega (arith, parts.long); right = header_right 4 (5 + tags * width) (tags_fields list block tags width floor) (of_list ∷ to_be_bytes w32 of_block ++ bytes) (omega (arith, parts.long)) small (tags_right list block tags width floor of_list of_block bytes fits parts); fits = fits; values = refl }
+valid_from_parts (expect.Values block tags tag_length) (spec.values_frame of_block bytes) small fits parts =
+    record { long = omega (arith, parts.long); right = header_right 7 (4 + tags * tag_length) (values_fields block tags tag_length) (to_be_bytes w32 of_block ++ bytes) (omega (arith, parts.long)) small (values_right block tags tag_length of_block bytes fits parts); fits = fits; values = refl }
 valid_from_parts expect.Done spec.done_frame small fits parts = record { long = refl; right = refl; fits = tt; values = refl }
 valid_from_parts e f small fits parts = absurd parts
 

@@ -12,6 +12,7 @@ use Rattle.psi_frames.specs.Fields.{kind_field, length_field}
 use Rattle.psi_frames.specs.Hello.{count_in, hello_fields, hello_length, receiver_hello_kind, sender_hello_kind}
 use Rattle.psi_frames.specs.Column.{column_fields, column_kind, column_length}
 use Rattle.psi_frames.specs.Tags.{tags_fields, tags_kind, tags_length}
+use Rattle.psi_frames.specs.Values.{values_fields, values_kind, values_length}
 use Rattle.psi_frames.specs.Done.{done_kind, done_length}
 
 -- the kind of the frame
@@ -20,6 +21,7 @@ kind_of (expect.ReceiverHello id session) = receiver_hello_kind
 kind_of (expect.SenderHello id session) = sender_hello_kind
 kind_of (expect.Column index rows) = column_kind
 kind_of (expect.Tags list block tags tag_length floor) = tags_kind
+kind_of (expect.Values block tags tag_length) = values_kind
 kind_of expect.Done = done_kind
 
 -- the length of its payload
@@ -28,6 +30,7 @@ payload_of (expect.ReceiverHello id session) = hello_length
 payload_of (expect.SenderHello id session) = hello_length
 payload_of (expect.Column index rows) = column_length rows
 payload_of (expect.Tags list block tags tag_length floor) = tags_length tags tag_length
+payload_of (expect.Values block tags tag_length) = values_length tags tag_length
 payload_of expect.Done = done_length
 
 -- the length of the whole frame
@@ -40,6 +43,7 @@ payload_fields (expect.ReceiverHello id session) = hello_fields id session
 payload_fields (expect.SenderHello id session) = hello_fields id session
 payload_fields (expect.Column index rows) = column_fields index rows
 payload_fields (expect.Tags list block tags tag_length floor) = tags_fields list block tags tag_length floor
+payload_fields (expect.Values block tags tag_length) = values_fields block tags tag_length
 payload_fields expect.Done = []
 
 -- all fields, in the order in which they are judged
@@ -56,6 +60,7 @@ seen (frame.ReceiverHello id session count) = spec.receiver_hello id session cou
 seen (frame.SenderHello id session count) = spec.sender_hello id session count
 seen (frame.Column index bytes) = spec.column_frame index bytes.now
 seen (frame.Tags list block bytes) = spec.tags_frame list block bytes.now
+seen (frame.Values block bytes) = spec.values_frame block bytes.now
 seen frame.Done = spec.done_frame
 
 -- the frame that a payload holds, where it is the expected one
@@ -64,6 +69,7 @@ payload_frame (expect.ReceiverHello id session) payload = spec.receiver_hello id
 payload_frame (expect.SenderHello id session) payload = spec.sender_hello id session (count_in payload)
 payload_frame (expect.Column index rows) payload = spec.column_frame index (drop 2 payload)
 payload_frame (expect.Tags list block tags tag_length floor) payload = spec.tags_frame list block (drop 5 payload)
+payload_frame (expect.Values block tags tag_length) payload = spec.values_frame block (drop 4 payload)
 payload_frame expect.Done payload = spec.done_frame
 
 -- the frame that bytes hold, where it is the expected one

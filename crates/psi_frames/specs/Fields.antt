@@ -1,4 +1,5 @@
--- The fields that frames of several kinds share: their kind, the length of their payload, and an index.
+-- The fields that frames of several kinds share: their kind, the length of their payload, an index, and bytes that may
+-- be any.
 use Rattle.std.specs.Prelude.{◌==◌, ℕ, Option, Some, None, if◌then◌else◌}
 use Rattle.std.specs.Int.{Width, w8, w32, byte_len, from_be_bytes}
 use Rattle.psi_spec.specs.Frames.{Field}
@@ -21,3 +22,7 @@ length_field wanted = number_field w32 (unless wanted (λ found. reason.Length f
 
 abbrev pub index_field : Width → ℕ → Field Reason
 index_field width wanted = number_field width (unless wanted (λ found. reason.Index found wanted))
+
+-- so many bytes, which are never refused
+abbrev pub unjudged_field : ℕ → Field Reason
+unjudged_field size = record { size = size; refuse = λ bytes. None }

@@ -8,6 +8,7 @@ use Rattle.psi_frames.specs.Expected.{IsValid, payload_of}
 use Rattle.psi_frames.specs.Hello.{IsHelloOf}
 use Rattle.psi_frames.specs.Column.{IsColumnOf}
 use Rattle.psi_frames.specs.Tags.{AreTagsOf}
+use Rattle.psi_frames.specs.Values.{AreValuesOf}
 
 -- the parts of a frame are those that are expected
 abbrev pub HasParts : Expect → spec.Frame → Type 0
@@ -18,6 +19,8 @@ HasParts (expect.SenderHello id session) (spec.sender_hello deal number items) =
 HasParts (expect.Column index rows) (spec.column_frame place bytes) = IsColumnOf index rows place bytes
 HasParts (expect.Tags list block tags tag_length floor) (spec.tags_frame of_list of_block bytes) =
     AreTagsOf list block tags tag_length floor of_list of_block bytes
+HasParts (expect.Values block tags tag_length) (spec.values_frame of_block bytes) =
+    AreValuesOf block tags tag_length of_block bytes
 HasParts expect.Done spec.done_frame = ⊤
 HasParts e f = ⊥
 

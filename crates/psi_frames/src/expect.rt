@@ -11,6 +11,7 @@ use crate::header::HEADER_LENGTH;
 use crate::hello::{HELLO_LENGTH, RECEIVER_HELLO, SENDER_HELLO, count_of, wrong_hello};
 use crate::reasons::Reason;
 use crate::tags::{TAGS, wrong_tags};
+use crate::values::{VALUES, wrong_values};
 use psi_base::TagLength;
 
 /// The one frame that may come next.
@@ -40,6 +41,12 @@ pub enum Expect {
         tag_length: TagLength,
         floor: [u8; 16],
     },
+    /// A block of values: so many tags of `tag_length` bytes, in the order of rows.
+    Values {
+        block: u32,
+        tags: u16,
+        tag_length: TagLength,
+    },
     /// The end of the session.
     Done,
 }
@@ -54,6 +61,7 @@ impl Expect {
             Expect::SenderHello { .. } => SENDER_HELLO,
             Expect::Column { .. } => COLUMN,
             Expect::Tags { .. } => TAGS,
+            Expect::Values { .. } => VALUES,
             Expect::Done => DONE,
         }
     }
@@ -70,6 +78,11 @@ impl Expect {
                 tag_length,
                 ..
             } => 5 + u32::from(*tags) * u32::from(tag_length.get()),
+            Expect::Values {
+                tags,
+                tag_length,
+                ..
+            } => 4 + u32::from(*tags) * u32::from(tag_length.get()),
             Expect::Done => 0,
         }
     }
@@ -98,6 +111,7 @@ pub(crate) fn wrong_payload(expect: &Expect, payload: &[u8]) -> Option<Reason>
             tag_length,
             floor,
         } => wrong_tags(*list, *block, *tags, *tag_length, floor, payload),
+        Expect::Values { block, .. } => wrong_values(*block, payload),
         Expect::Done => None,
     }
 }
@@ -126,6 +140,10 @@ pub(crate) fn payload_frame<'a>(expect: &Expect, payload: &'a [u8]) -> Frame<'a>
             list: *list,
             block: *block,
             bytes: &payload[5..],
+        },
+        Expect::Values { block, .. } => Frame::Values {
+            block: *block,
+            bytes: &payload[4..],
         },
         Expect::Done => Frame::Done,
     }

@@ -9,6 +9,7 @@ use crate::done::put_done;
 use crate::hello::{RECEIVER_HELLO, SENDER_HELLO, put_hello};
 use crate::outbox::Outbox;
 use crate::tags::put_tags;
+use crate::values::put_values;
 
 /// A frame. Its bytes are lent.
 #[derive(Clone, Copy, Debug, PartialEq, Eq)]
@@ -33,6 +34,11 @@ pub enum Frame<'a> {
     /// The tags of a block of a list, one after another.
     Tags {
         list: u8,
+        block: u32,
+        bytes: &'a [u8],
+    },
+    /// The values of a block of rows, one after another in the order of rows.
+    Values {
         block: u32,
         bytes: &'a [u8],
     },
@@ -62,6 +68,7 @@ pub fn put(out: &mut Outbox, frame: &Frame<'_>)
         ),
         Frame::Column { index, bytes } => put_column(out, *index, bytes),
         Frame::Tags { list, block, bytes } => put_tags(out, *list, *block, bytes),
+        Frame::Values { block, bytes } => put_values(out, *block, bytes),
         Frame::Done => put_done(out),
     }
 }

@@ -22,6 +22,7 @@ mod talk_tests;
 #[cfg(test)]
 mod tests;
 mod turns;
+mod values;
 
 pub use column::{COLUMN_HEAD, columns_size};
 pub use done::DONE_SIZE;

@@ -10,7 +10,7 @@ use Rattle.std.proofs.lemmas.Bool.{le-ltb, ltb-false}
 use Rattle.std.proofs.lemmas.Bool.Decides.{nat_tests}
 use Rattle.std.proofs.lemmas.List.{take-append-le, drop-append-le, take_all, drop_all, drop-drop}
 use Rattle.std.proofs.lemmas.Nat.{from_be_bytes-to_be_bytes_2, from_be_bytes-to_be_bytes_4, from_be_bytes-to_be_bytes_8}
-use Rattle.psi_spec.specs.Frames.{AreBytes, Field, Fits, FitsHello, Frame, column_frame, done_frame, first_below, first_wrong, hello_payload, is_below, layout, receiver_hello, sender_hello, tags_frame, tags_of}
+use Rattle.psi_spec.specs.Frames.{AreBytes, Field, Fits, FitsHello, Frame, column_frame, done_frame, first_below, first_wrong, hello_payload, is_below, layout, receiver_hello, sender_hello, tags_frame, tags_of, values_frame}
 
 pub AreBytes-take : (n : ℕ) (bytes : List ℕ) → AreBytes bytes → AreBytes (take n bytes)
 AreBytes-take zero bytes small i = omega arith
@@ -85,7 +85,8 @@ read_payload kind payload =
     (cond (kind == 2) (read_hello sender_hello payload)
     (cond (kind == 3) (column_frame (from_be_bytes w16 (take 2 payload)) (drop 2 payload))
     (cond (kind == 4) (tags_frame (get_or payload 0 0) (from_be_bytes w32 (take 4 (drop 1 payload))) (drop 5 payload))
-    done_frame)))
+    (cond (kind == 7) (values_frame (from_be_bytes w32 (take 4 payload)) (drop 4 payload))
+    done_frame))))
 
 abbrev read_frame : List ℕ → Frame
 read_frame bytes = read_payload (get_or bytes 0 0) (drop 5 bytes)
@@ -111,6 +112,7 @@ read_again (receiver_hello id session count) fits = hello_again receiver_hello i
 read_again (sender_hello id session count) fits = hello_again sender_hello id session count fits
 read_again (column_frame index bytes) fits = ap (λ (i : ℕ). column_frame i bytes) (from_be_bytes-to_be_bytes_2 index fits)
 read_again (tags_frame list block tags) fits = ap (λ (b : ℕ). tags_frame list b tags) (from_be_bytes-to_be_bytes_4 block fits)
+read_again (values_frame block values) fits = ap (λ (b : ℕ). values_frame b values) (from_be_bytes-to_be_bytes_4 block fits)
 read_again done_frame fits = refl
 
 -- two frames with the same bytes are one

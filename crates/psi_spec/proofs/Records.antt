@@ -1,6 +1,6 @@
 -- Records spell their slots and frames, and what they spell is read again.
-use Rattle.std.proofs.Common.{◌≡◌, ◌+◌, ◌-◌, ◌*◌, ◌^◌, ◌<◌, ◌≤◌, ◌==◌, ◌&&◌, ◌∙◌, ◌≢◌, ℕ, zero, suc, map, Bool, true, false, not, cond, All, List, [], ◌∷◌, ◌++◌, length, take, drop, get_or, codes, refl, sym, ap, ap₂, subst, arith, append-nil, append_assoc, length-append, length-drop, take-append-drop, drop-cons}
-use Rattle.std.specs.Prelude.{nat_le}
+use Rattle.std.proofs.Common.{◌≡◌, ◌+◌, ◌-◌, ◌*◌, ◌^◌, ◌<◌, ◌≤◌, ◌==◌, ◌&&◌, ◌∙◌, ℕ, zero, suc, map, Bool, true, false, not, cond, All, List, [], ◌∷◌, ◌++◌, length, take, drop, get_or, codes, refl, sym, ap, ap₂, subst, arith, append-nil, append_assoc, length-append, length-drop, take-append-drop, drop-cons}
+use Rattle.std.specs.Prelude.{nat_le, ⊤}
 use Rattle.std.specs.List.{flat_map}
 use Rattle.std.specs.Int.{w16, w32, to_be_bytes, from_be_bytes}
 use Rattle.std.proofs.lemmas.Bool.{le-leb, leb-true, eq-eqb, eqb-true, ne_eqb}
@@ -12,7 +12,7 @@ use lib.Seq.{take-add}
 use Rattle.sha2.specs.Sha256.{sha256}
 use Rattle.sha2.proofs.Facts256.{length-sha256}
 use Rattle.psi_spec.specs.DealFiles.{sealed}
-use Rattle.psi_spec.specs.Frames.{AreBytes, Frame, column_frame, done_frame, framed, hello_payload, layout, receiver_hello, sender_hello, tags_frame}
+use Rattle.psi_spec.specs.Frames.{AreBytes, Frame, column_frame, done_frame, framed, hello_payload, layout, receiver_hello, sender_hello, tags_frame, values_frame}
 use Rattle.psi_spec.specs.Placement.{Slot}
 use Rattle.psi_spec.specs.Records.{RawFrame, IsEarlier, IsWire, LoggedSession, IsLogged, FitsSlot, wire_place, slots_bytes, record_front, record_file, frames_bytes, slots_of, slot_count, logged_of, is_kind, payload_length, frame_size, has_frame, first_frame, earlier_of, last_place}
 use Rattle.psi_spec.proofs.Frames.{AreBytes-take, AreBytes-drop}
@@ -490,16 +490,25 @@ record_again session h =
 
 -- ---- frames that ends send
 
--- a frame may stand before the last: it is not the end, and its payload's length fits four bytes
+-- a frame is of a kind that a record holds before the last one
+abbrev pub IsBeforeEnd : Frame → Type 0
+IsBeforeEnd (receiver_hello id session count) = ⊤
+IsBeforeEnd (sender_hello id session count) = ⊤
+IsBeforeEnd (column_frame index bytes) = ⊤
+IsBeforeEnd (tags_frame list block tags) = ⊤
+IsBeforeEnd frame = ⊥
+
+-- a frame may stand before the last: it is of such a kind, and its payload's length fits four bytes
 pub record MayPrecede (frame : Frame) : Type 0 where
   pub short : length (layout frame) < 2 ^ 32 + 5
-  pub other : frame ≢ done_frame
+  pub kind : IsBeforeEnd frame
 
 raw_of : Frame → RawFrame
 raw_of (receiver_hello id session count) = record { kind = 1; payload = hello_payload id session count }
 raw_of (sender_hello id session count) = record { kind = 2; payload = hello_payload id session count }
 raw_of (column_frame index bytes) = record { kind = 3; payload = to_be_bytes w16 index ++ bytes }
 raw_of (tags_frame list block tags) = record { kind = 4; payload = list ∷ to_be_bytes w32 block ++ tags }
+raw_of (values_frame block values) = record { kind = 7; payload = to_be_bytes w32 block ++ values }
 raw_of done_frame = record { kind = 5; payload = [] }
 
 raw_layout : (frame : Frame) → framed (raw_of frame).kind (raw_of frame).payload ≡ layout frame
@@ -508,19 +517,21 @@ raw_layout (receiver_hello id session count) = refl
 raw_layout (sender_hello id session count) = refl
 raw_layout (column_frame index bytes) = refl
 raw_layout (tags_frame list block tags) = refl
+raw_layout (values_frame block values) = refl
 raw_layout done_frame = refl
 
-kinds_by : (frame : Frame) → frame ≢ done_frame → (1 ≤ (raw_of frame).kind) × ((raw_of frame).kind ≤ 4)
+kinds_by : (frame : Frame) → IsBeforeEnd frame → (1 ≤ (raw_of frame).kind) × ((raw_of frame).kind ≤ 4)
 unfolding raw_of
-kinds_by (receiver_hello id session count) other = (omega arith, omega arith)
-kinds_by (sender_hello id session count) other = (omega arith, omega arith)
-kinds_by (column_frame index bytes) other = (omega arith, omega arith)
-kinds_by (tags_frame list block tags) other = (omega arith, omega arith)
-kinds_by done_frame other = absurd (other refl)
+kinds_by (receiver_hello id session count) kind = (omega arith, omega arith)
+kinds_by (sender_hello id session count) kind = (omega arith, omega arith)
+kinds_by (column_frame index bytes) kind = (omega arith, omega arith)
+kinds_by (tags_frame list block tags) kind = (omega arith, omega arith)
+kinds_by (values_frame block values) kind = absurd kind
+kinds_by done_frame kind = absurd kind
 
 raw_is_earlier : (frame : Frame) → MayPrecede frame → IsEarlier (raw_of frame)
 raw_is_earlier frame h =
-    let kinds = kinds_by frame h.other in
+    let kinds = kinds_by frame h.kind in
     let size : length (layout frame) ≡ length (framed (raw_of frame).kind (raw_of frame).payload) = ap length (sym (raw_layout frame)) in
     record { least = kinds.0; most = kinds.1; short = omega (arith, size, h.short) }
 

@@ -7,12 +7,13 @@ use Rattle.std.specs.Cmp.Lexicographic.{slice_cmp}
 use Rattle.std.specs.Ordering.{nat_cmp, is_lt}
 
 -- a frame: a hello with its deal's id, its session and a count of items; a column with its index and its bytes; the
--- tags of a block of a list, joined; the end
+-- tags of a block of a list, joined; the values of a block of rows, joined; the end
 pub data Frame : Type 0 where
   receiver_hello : List ℕ → ℕ → ℕ → Frame
   sender_hello : List ℕ → ℕ → ℕ → Frame
   column_frame : ℕ → List ℕ → Frame
   tags_frame : ℕ → ℕ → List ℕ → Frame
+  values_frame : ℕ → List ℕ → Frame
   done_frame : Frame
 
 -- a kind, the length of a payload in four bytes, and the payload
@@ -29,6 +30,7 @@ layout (receiver_hello id session count) = framed 1 (hello_payload id session co
 layout (sender_hello id session count) = framed 2 (hello_payload id session count)
 layout (column_frame index bytes) = framed 3 (to_be_bytes w16 index ++ bytes)
 layout (tags_frame list block tags) = framed 4 (list ∷ to_be_bytes w32 block ++ tags)
+layout (values_frame block values) = framed 7 (to_be_bytes w32 block ++ values)
 layout done_frame = framed 5 []
 
 -- ---- sizes, in bytes
@@ -71,6 +73,7 @@ Fits (receiver_hello id session count) = FitsHello id session count
 Fits (sender_hello id session count) = FitsHello id session count
 Fits (column_frame index bytes) = index < 2 ^ 16
 Fits (tags_frame list block tags) = block < 2 ^ 32
+Fits (values_frame block values) = block < 2 ^ 32
 Fits done_frame = ⊤
 
 -- a field of a frame: how many bytes it has, and for which reason such bytes are refused, if for any
