@@ -38,7 +38,7 @@ lists_of_stream deal placed count lists bytes is stream =
     at : (i : ℕ) → i < length (map list_in (range_with_len 0 n)) → get_or (map list_in (range_with_len 0 n)) i [] ≡ get_or lists i []
     at i low =
         let small : i < n = omega (arith, low, length-map (range_with_len 0 n) list_in, length-range_with_len 0 n) in
-        get_or-map list_in (range_with_len 0 n) i [] 0 (omega (arith, small, length-range_with_len 0 n))
+        get_or-map list_in (range_with_len 0 n) i 0 [] (omega (arith, small, length-range_with_len 0 n))
         ∙ ap list_in (get_or-range_with_len 0 n i 0 small)
         ∙ ap (in_list (block_tags_in g) (0 + i)) (frames_heard deal placed count lists bytes is stream)
         ∙ lists_in (block_tags_in g) g (λ tag. tag) makes (0 + i) 0 i count lists refl (recursion_from_All (IsTagList g count) lists stream.each)
