@@ -1,6 +1,6 @@
 // Blocks of tags: kind 4. The payload is the number of the list, the number of the block and its tags, one after
 // another, which rise.
-ghost use Rattle.std.specs.Prelude.{◌≡◌, ◌+◌, ◌*◌, ◌≤◌, [], ◌∷◌, length, take, drop};
+ghost use Rattle.std.specs.Prelude.{◌≡◌, ◌+◌, ◌*◌, ◌^◌, ◌<◌, ◌≤◌, [], ◌∷◌, length, take, drop};
 ghost use Rattle.psi_spec.specs.Formulas.{padded};
 ghost use Rattle.psi_spec.specs.Frames.{first_wrong, layout, tags_frame};
 ghost use Rattle.psi_spec.specs.Frames as spec;
@@ -23,7 +23,8 @@ pub const TAGS_HEAD: u32 = 10;
 
 /// How many bytes the frames of so many lists have, each of `count` tags of this length.
 pub fn lists_size(lists: u8, tag_length: TagLength, count: u32) -> u64
-    ensures { result ≡ lists_size lists tag_length count }
+    ensures exact { result ≡ lists_size lists tag_length count }
+    ensures small { result < 2 ^ 48 }
 {
     let heads = u64::from(TAGS_HEAD) * u64::from(count.div_ceil(BLOCK_TAGS));
     let tags = u64::from(tag_length.get()) * u64::from(count);

@@ -96,7 +96,7 @@ logging_taken state f before spare spare' box box' may h room left same =
       most_frames = h.most_frames - 1;
       within =
           subst (λ (s : EndState). IsWithin (h.most_frames - 1) (after_taking f s).next) (sym wait.1)
-          (within-goes_on false (next f) (h.most_frames - 1) (few.3 f due.2));
+          (within-goes_on false (next f) (h.most_frames - 1) (few.2 f due.2));
       free = same ∙ h.free;
     }
 

@@ -19,7 +19,6 @@ within_blocks width count list block (suc left) floor rest n m short few h =
     let tags : tags_at count block ≤ 1024 = omega arith in
     let bytes = mul-le (tags_at count block) width 1024 16 tags short in (
       omega arith,
-      short,
       omega (arith, bytes),
       λ f valid. within_blocks width count list (block + 1) left (floor_after width (tags_at count block) f) rest (n - 1) m short (omega arith) h,
     )
@@ -34,7 +33,6 @@ within_lists width count list (suc left) short =
 pub within_receiver : (deal : ReceiverDeal) (placed : List Placed) → IsReceiverDeal deal → IsWithin 19457 (next_of deal placed greets)
 within_receiver deal placed is = (
   lit< tt,
-  tt,
   lit≤ tt,
   λ hello valid.
       let few = count_that_comes deal.id deal.session hello valid in

@@ -20,11 +20,11 @@ IsMost script most = (frames : List Frame) → AreDue script frames → length (
 
 -- the bytes of lists of so many tags each, and of the end
 abbrev pub rest_size : ℕ → ℕ → ℕ → ℕ
-rest_size width count lists = lists_size lists width count + 5
+rest_size tag_length count lists = lists_size lists tag_length count + 5
 
 -- the bytes of 512 columns of so many rows, of lists and of the end
 abbrev pub answer_size : ℕ → ℕ → ℕ → ℕ → ℕ
-answer_size rows width count lists = columns_size rows + rest_size width count lists
+answer_size rows tag_length count lists = columns_size rows + rest_size tag_length count lists
 
 -- so many more bytes may be written down: the frame that an end takes, and all that goes over the wire after it
 pub record HasRoomFor (state : EndState) (f : Frame) (spare : ℕ) : Type 0 where

@@ -8,27 +8,27 @@ use Rattle.psi_spec.specs.Formulas.{padded}
 use Rattle.psi_spec.specs.Frames.{is_below, tags_of}
 use Rattle.psi_spec.specs.Streams.{block_tags}
 
--- how many tags of this width the bytes of a block have
+-- how many tags of this length the bytes of a block have
 abbrev pub tags_in : ℕ → List ℕ → ℕ
-tags_in width bytes = length bytes / width
+tags_in tag_length bytes = length bytes / tag_length
 
--- bytes are 1 to 1,024 whole tags of this width in rising order, and nothing else
-pub record IsBlock (width : ℕ) (bytes : List ℕ) : Type 0 where
-  pub whole : length bytes ≡ tags_in width bytes * width
-  pub some : 1 ≤ tags_in width bytes
-  pub few : tags_in width bytes ≤ block_tags
-  pub rises : IsSorted (slice_cmp nat_cmp) (tags_of (tags_in width bytes) width bytes)
+-- bytes are 1 to 1,024 whole tags of this length in rising order, and nothing else
+pub record IsBlock (tag_length : ℕ) (bytes : List ℕ) : Type 0 where
+  pub whole : length bytes ≡ tags_in tag_length bytes * tag_length
+  pub some : 1 ≤ tags_in tag_length bytes
+  pub few : tags_in tag_length bytes ≤ block_tags
+  pub rises : IsSorted (slice_cmp nat_cmp) (tags_of (tags_in tag_length bytes) tag_length bytes)
 
 -- the tags of a block, each padded
 abbrev pub padded_tags : ℕ → List ℕ → List (List ℕ)
-padded_tags width bytes = map (padded width) (tags_of (tags_in width bytes) width bytes)
+padded_tags tag_length bytes = map (padded tag_length) (tags_of (tags_in tag_length bytes) tag_length bytes)
 
 -- the first and the last of them
 abbrev pub first_in : ℕ → List ℕ → List ℕ
-first_in width bytes = slice_index_or (padded_tags width bytes) 0 []
+first_in tag_length bytes = slice_index_or (padded_tags tag_length bytes) 0 []
 
 abbrev pub last_in : ℕ → List ℕ → List ℕ
-last_in width bytes = slice_index_or (padded_tags width bytes) (tags_in width bytes - 1) []
+last_in tag_length bytes = slice_index_or (padded_tags tag_length bytes) (tags_in tag_length bytes - 1) []
 
 -- whether a tag is one of these
 abbrev pub is_among : List (List ℕ) → List ℕ → Bool

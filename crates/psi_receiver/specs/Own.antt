@@ -94,12 +94,12 @@ in_list of list (frame ∷ frames) = in_list of list frames
 
 -- the tags that frames have of a list, each padded
 abbrev pub tags_for : ℕ → ℕ → List Frame → List (List ℕ)
-tags_for width list frames = in_list (padded_tags width) list frames
+tags_for tag_length list frames = in_list (padded_tags tag_length) list frames
 
 -- the own tags of each list are marked by the tags that frames have of it
 abbrev pub AreMarked : ℕ → List Frame → List Marked → Type 0
-AreMarked width frames lists =
-    (list : ℕ) (m : Marked) → slice_get lists list ≡ Some m → IsMarkedBy (tags_for width list frames) m
+AreMarked tag_length frames lists =
+    (list : ℕ) (m : Marked) → slice_get lists list ≡ Some m → IsMarkedBy (tags_for tag_length list frames) m
 
 -- a merge stands at a place of own tags, where the tags that came end with the floor: those before the place are not
 -- above it, and are marked where they equal it

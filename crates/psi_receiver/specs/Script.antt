@@ -25,8 +25,8 @@ tags_at count block = min block_tags (count - block_tags * block)
 
 -- the last of so many tags, padded: the next block rises from it
 abbrev pub floor_after : ℕ → ℕ → Frame → List ℕ
-floor_after width tags frame =
-    padded width (slice_index_or (tags_of tags width (bytes_in frame)) (tags - 1) [])
+floor_after tag_length tags frame =
+    padded tag_length (slice_index_or (tags_of tags tag_length (bytes_in frame)) (tags - 1) [])
 
 -- a list rises from zeros
 abbrev pub no_floor : List ℕ
@@ -34,16 +34,17 @@ no_floor = replicate 16 0
 
 -- so many blocks of a list of `count` tags are awaited, from this block on, each rising from the one before it
 abbrev pub awaits_blocks : ℕ → ℕ → ℕ → ℕ → ℕ → List ℕ → Script → Script
-awaits_blocks width count list block zero floor rest = rest
-awaits_blocks width count list block (suc left) floor rest =
-    awaits (expect.Tags list block (tags_at count block) width floor)
-    (λ frame. awaits_blocks width count list (block + 1) left (floor_after width (tags_at count block) frame) rest)
+awaits_blocks tag_length count list block zero floor rest = rest
+awaits_blocks tag_length count list block (suc left) floor rest =
+    awaits (expect.Tags list block (tags_at count block) tag_length floor)
+    (λ frame.
+    awaits_blocks tag_length count list (block + 1) left (floor_after tag_length (tags_at count block) frame) rest)
 
 -- so many lists are awaited, from this number on, each in its blocks; after the last the end is sent
 abbrev pub awaits_lists : ℕ → ℕ → ℕ → ℕ → Script
-awaits_lists width count list zero = sends (layout done_frame) over
-awaits_lists width count list (suc left) =
-    awaits_blocks width count list 0 (blocks_for count) no_floor (awaits_lists width count (list + 1) left)
+awaits_lists tag_length count list zero = sends (layout done_frame) over
+awaits_lists tag_length count list (suc left) =
+    awaits_blocks tag_length count list 0 (blocks_for count) no_floor (awaits_lists tag_length count (list + 1) left)
 
 -- after the sender's hello: the columns are sent, and the lists of so many tags are awaited
 abbrev pub answers_hello : ReceiverDeal → List Placed → ℕ → Script

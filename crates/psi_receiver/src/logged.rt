@@ -81,7 +81,7 @@ fn most_after_hello(deal: &ReceiverDeal, rows: u32, count: u32) -> u64
     ensures exact { result ≡ answer_size rows deal.now.tag_length count (3 + deal.now.stash) }
     ensures small { result + hello_size < 2 ^ 64 }
 {
-    let lists = lists_size(3 + deal.stash(), deal.width(), count);
+    let lists = lists_size(3 + deal.stash(), deal.tag_length(), count);
     columns_size(rows) + (lists + u64::from(DONE_SIZE))
 }
 

@@ -6,6 +6,7 @@ ghost use Rattle.std.specs.Str.{bytes_eq};
 ghost use Rattle.psi_spec.specs.Frames.{is_below};
 ghost use Rattle.psi_receiver.specs.Marking.{IsBlock, first_in, is_among, last_in, not_above, padded_tags, PartsAt};
 
+use psi_base::TagLength;
 use psi_frames::tag_at;
 use psi_oprf::Tag;
 
@@ -39,27 +40,27 @@ fn mark_tag(own: &[Tag], from: u32, tag: &Tag, hits: &mut [bool]) -> u32
 /// Marks the own tags from a place on that are among the tags of a block, and answers how many own tags are not above
 /// the block's last.
 ///
-/// `own` has fewer than 2^32 tags in rising order, and `hits` a mark for each. `bytes` has 1 to 1,024 tags of `width`
-/// bytes, from 1 to 16, in rising order, and nothing else: each counts with zeros behind it. The own tags before `from`
-/// are not above its first. A mark that is set stays, and so do all before `from`.
-pub fn mark(own: &[Tag], from: u32, bytes: &[u8], width: u8, hits: &mut [bool]) -> u32
-    requires least { 1 ≤ width }
-    requires most { width ≤ 16 }
+/// `own` has fewer than 2^32 tags in rising order, and `hits` a mark for each. `bytes` has 1 to 1,024 tags of this
+/// length in rising order, and nothing else: each counts with zeros behind it. The own tags before `from` are not above
+/// its first. A mark that is set stays, and so do all before `from`.
+pub fn mark(own: &[Tag], from: u32, bytes: &[u8], tag_length: TagLength, hits: &mut [bool]) -> u32
     requires rises { IsSorted (slice_cmp nat_cmp) own.now }
     requires few { length own.now < 2 ^ 32 }
     requires hits { length hits.old ≡ length own.now }
     requires from { from ≤ length own.now }
-    requires block { IsBlock width bytes.now }
-    requires passed { (i : ℕ) → i < from → is_below (first_in width bytes.now) (slice_index_or own.now i []) ≡ false }
+    requires block { IsBlock tag_length bytes.now }
+    requires passed { (i : ℕ) → i < from →
+        is_below (first_in tag_length bytes.now) (slice_index_or own.now i []) ≡ false }
     ensures kept { (i : ℕ) → i < from → slice_index_or hits.new i false ≡ slice_index_or hits.old i false }
     ensures marked { (i : ℕ) → from ≤ i → i < length own.now →
         slice_index_or hits.new i false
-        ≡ (slice_index_or hits.old i false || is_among (padded_tags width bytes.now) (slice_index_or own.now i [])) }
-    ensures passed { result ≡ not_above (last_in width bytes.now) own.now }
+        ≡ (slice_index_or hits.old i false
+        || is_among (padded_tags tag_length bytes.now) (slice_index_or own.now i [])) }
+    ensures passed { result ≡ not_above (last_in tag_length bytes.now) own.now }
 {
     let mut at = from;
-    for index in 0..(bytes.len() / usize::from(width)) as u16 {
-        at = mark_tag(own, at, &tag_at(bytes, width, index), hits);
+    for index in 0..(bytes.len() / usize::from(tag_length.get())) as u16 {
+        at = mark_tag(own, at, &tag_at(bytes, tag_length, index), hits);
     }
     at
 }

@@ -75,7 +75,7 @@ fn tag_batch(deal: &ReceiverDeal, placement: &Placement, rows: &Rows, at: u32, o
     let words = &mut words[..out.len()];
     put_numbers(placement, at, numbers);
     put_words(rows, numbers, words);
-    tags(deal.key(), deal.width(), numbers, words, out);
+    tags(deal.key(), deal.tag_length(), numbers, words, out);
 }
 
 // Makes `out` the tags of all items.

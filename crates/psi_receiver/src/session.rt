@@ -93,7 +93,7 @@ impl<'a> Session<'a> {
                 list: merge.list,
                 block: merge.block,
                 tags: merge.tags(),
-                width: self.deal.width(),
+                tag_length: self.deal.tag_length(),
                 floor: merge.floor,
             }),
             Phase::Columns { .. } | Phase::Done | Phase::Over => None,

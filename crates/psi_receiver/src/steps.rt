@@ -86,9 +86,9 @@ pub(crate) fn merge_block(
         × ((m : Marked) → slice_get (marks_of own.new) merge.now.list ≡ Some m →
         IsMerging (last_in deal.now.tag_length bytes.now) place m) }
 {
-    let width = deal.width();
+    let tag_length = deal.tag_length();
     let list = &mut own.lists[usize::from(merge.list)];
-    let from = mark_block(list, merge.from, bytes, width);
-    let last = tag_at(bytes, width, merge.tags() - 1);
+    let from = mark_block(list, merge.from, bytes, tag_length);
+    let last = tag_at(bytes, tag_length, merge.tags() - 1);
     merge.after(3 + deal.stash(), last, from)
 }

@@ -16,10 +16,9 @@ use Rattle.psi_sender.proofs.Coming.{count_that_comes}
 
 within_columns : (deal : SenderDeal) (ys : List (List ℕ)) (count n : ℕ) (opened chosen : List (List ℕ)) → 7 + column_bytes (rows_for deal.stash count) ≤ inbox_room → length chosen + 1 ≤ n
     → IsWithin n (opens_columns deal ys count opened chosen)
-within_columns deal ys count n opened [] fits few = (omega arith, tt, lit≤ tt, λ f valid. tt)
+within_columns deal ys count n opened [] fits few = (omega arith, lit≤ tt, λ f valid. tt)
 within_columns deal ys count n opened (column ∷ chosen) fits few = (
   omega arith,
-  tt,
   omega arith,
   λ f valid.
       within_columns deal ys count (n - 1) (opened ++ opened_column (bit_of deal.choice (length opened)) column (bytes_in f) ∷ []) chosen fits (omega arith),
@@ -28,7 +27,6 @@ within_columns deal ys count n opened (column ∷ chosen) fits few = (
 pub within_script : (deal : SenderDeal) (ys : List (List ℕ)) → IsSenderDeal deal → IsWithin 514 (sender_script deal ys)
 within_script deal ys is = (
   lit< tt,
-  tt,
   lit≤ tt,
   λ hello valid.
       let few = count_that_comes deal.id deal.session hello valid in

@@ -1,6 +1,6 @@
 -- A session as contracts see it: what is to be sent, and what is done after that.
 use Rattle.std.specs.Prelude.{◌≡◌, ◌+◌, ◌*◌, ◌<◌, ◌≤◌, ℕ, true, false, List, [], ◌++◌, length, map, take, drop, slice_index_or, Option, Some, None}
-use Rattle.psi_spec.specs.Limits.{limit_items, bins_for, rows_for}
+use Rattle.psi_spec.specs.Limits.{limit_items, tag_limit, bins_for, rows_for}
 use Rattle.psi_spec.specs.Columns.{row_of}
 use Rattle.psi_spec.specs.Deals.{SenderDeal, sender_columns}
 use Rattle.psi_spec.specs.Frames.{layout, sender_hello}
@@ -65,11 +65,12 @@ running own ys n memory p = record {
   stage = stage_in memory.columns.columns p;
 }
 
--- the parts of a session's memory have their sizes, the items are hashed, and the room of the outbox is spare where
--- nothing is pending
+-- the parts of a session's memory have their sizes, with tags as short as tags are, the items are hashed, and the room
+-- of the outbox is spare where nothing is pending
 pub record IsMemory (deal : SenderDeal) (ys : List (List ℕ)) (count : ℕ) (memory : Memory) : Type 0 where
   pub rows : memory.columns.rows ≡ rows_for deal.stash count
   pub opened : length memory.rows ≡ rows_for deal.stash count
+  pub tag_length : deal.tag_length ≤ tag_limit
   pub hashes : AreHashes deal (bins_for count) ys memory.hashes
   pub tags : length memory.tags.items ≡ length ys
   pub block : length memory.block.items ≡ block_tags * deal.tag_length

@@ -11,6 +11,7 @@ ghost use Rattle.psi_frames.specs.Boxes.{with_added};
 ghost use Rattle.psi_sender.specs.Answering.{AreFor, flipped_word, word_tag, bin_list, made_list};
 
 use crate::hashes::Hashes;
+use psi_base::TagLength;
 use psi_bits::Word512;
 use psi_deal::SenderDeal;
 use psi_frames::{BLOCK_TAGS, Frame, Outbox, put};
@@ -67,7 +68,7 @@ fn tag_batch(
     let mut words = [Word512::zero(); BATCH];
     let words = &mut words[..out.len()];
     put_words(deal.choice(), opened, rows, codes, words);
-    tags(deal.key(), deal.width(), rows, words, out);
+    tags(deal.key(), deal.tag_length(), rows, words, out);
 }
 
 // The bin of each item at one index, 0 to 2 for the first to the third.
@@ -211,15 +212,15 @@ pub(crate) fn make_list(
     out.sort_unstable_by(tag_order);
 }
 
-// Makes `out` the first `width` bytes of each tag, one after another.
-fn join_tags(tags: &[Tag], width: usize, out: &mut [u8])
-    requires width { width ≤ 16 }
-    requires room { length out.old ≡ length tags.now * width }
-    ensures { out.new ≡ concat (map (λ tag. take width tag) tags.now) }
+// Makes `out` the bytes of tags of this length, one after another, without the zeros behind them.
+fn join_tags(tags: &[Tag], tag_length: TagLength, out: &mut [u8])
+    requires { length out.old ≡ length tags.now * tag_length }
+    ensures { out.new ≡ concat (map (λ tag. take tag_length tag) tags.now) }
 {
+    let length = usize::from(tag_length.get());
     for i in 0..tags.len() {
-        let at = i * width;
-        out[at..at + width].copy_from_slice(&tags[i][..width]);
+        let at = i * length;
+        out[at..at + length].copy_from_slice(&tags[i][..length]);
     }
 }
 
@@ -227,21 +228,20 @@ fn join_tags(tags: &[Tag], width: usize, out: &mut [u8])
 pub(crate) fn put_block(
     list: u8,
     block: u32,
-    width: u8,
+    tag_length: TagLength,
     tags: &[Tag],
     room: &mut [u8],
     outbox: &mut Outbox,
 )
-    requires width { width ≤ 16 }
     requires block { block_tags * block ≤ length tags.now }
-    requires room { block_tags * width ≤ length room.old }
-    requires spare { 10 + block_tags * width ≤ outbox.old.spare }
+    requires room { block_tags * tag_length ≤ length room.old }
+    requires spare { 10 + block_tags * tag_length ≤ outbox.old.spare }
     ensures { outbox.new ≡
-        with_added (layout (block_frame list (map (λ tag. take width tag) tags.now) block)) outbox.old }
+        with_added (layout (block_frame list (map (λ tag. take tag_length tag) tags.now) block)) outbox.old }
 {
     let start = BLOCK_TAGS as usize * block as usize;
     let end = tags.len().min(start + BLOCK_TAGS as usize);
-    let bytes = &mut room[..(end - start) * usize::from(width)];
-    join_tags(&tags[start..end], usize::from(width), bytes);
+    let bytes = &mut room[..(end - start) * usize::from(tag_length.get())];
+    join_tags(&tags[start..end], tag_length, bytes);
     put(outbox, &Frame::Tags { list, block, bytes });
 }

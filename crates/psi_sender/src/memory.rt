@@ -46,7 +46,7 @@ impl Memory {
         ensures empty { IfOk result (λ memory. memory.outbox.pending ≡ []) }
     {
         let row_count = rows(count, deal.stash());
-        let room = BLOCK_TAGS as usize * usize::from(deal.width());
+        let room = BLOCK_TAGS as usize * usize::from(deal.tag_length().get());
         let mut columns = Columns::zero(alloc, row_count)?;
         let rows = Rows::with_rows(alloc, row_count)?;
         let hashes = Hashes::of(alloc, deal, items, bins(count))?;

@@ -64,7 +64,6 @@ fn ready_tags(
     list: u8,
     block: u32,
 )
-    requires width { deal.now.tag_length ≤ 16 }
     requires few { count ≤ limit_items }
     requires holds { IsMemory deal.now items.now count memory.old }
     requires answering { IsAnswering deal.now items.now count memory.old list block }
@@ -111,12 +110,11 @@ pub(crate) fn put_tags(
         memory.old.outbox }
     ensures phase { result ≡ next_phase list block (3 + deal.now.stash) (blocks_for (length items.now)) }
 {
-    let width = deal.width();
     ready_tags(deal, items, count, memory, list, block);
     put_block(
         list,
         block,
-        width,
+        deal.tag_length(),
         &memory.tags,
         &mut memory.block,
         &mut memory.outbox,

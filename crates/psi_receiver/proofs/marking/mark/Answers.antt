@@ -11,23 +11,23 @@ use Rattle.psi_receiver.proofs.marking.mark.Goals as goal
 
 pub mark_tag-at-requires-clause-passed : goal.mark_tag-at-requires-clause-passed
 mark_tag-at-requires-clause-passed c = λ j l.
-    let count : length c.args.bytes.now / c.from.result ≡ tags_in c.args.width c.args.bytes.now = ap (λ (n : ℕ). length c.args.bytes.now / n) c.from.ensures in
-    let low : c.loop-index.index < tags_in c.args.width c.args.bytes.now = omega (arith, count) in
-    let here = c.tag_at.ensures ∙ sym (get_or-padded_tags c.args.width c.args.bytes.now c.loop-index.index low) in
+    let count : length c.args.bytes.now / c.from.result ≡ tags_in c.args.tag_length c.args.bytes.now = ap (λ (n : ℕ). length c.args.bytes.now / n) (c.from.ensures ∙ c.get.ensures.same) in
+    let low : c.loop-index.index < tags_in c.args.tag_length c.args.bytes.now = omega (arith, count) in
+    let here = c.tag_at.ensures ∙ sym (get_or-padded_tags c.args.tag_length c.args.bytes.now c.loop-index.index low) in
     ap (λ (tag : List ℕ). is_below tag (get_or c.args.own.now j [])) here ∙ c.loop-index.invariant.passed j l low
 
 pub loop-index-preserved : goal.loop-index-preserved
 loop-index-preserved c =
     let k : ℕ = c.loop-index.index in
     let own = c.args.own.now in
-    let tags : List (List ℕ) = padded_tags c.args.width c.args.bytes.now in
+    let tags : List (List ℕ) = padded_tags c.args.tag_length c.args.bytes.now in
     let old = c.args.hits.now in
     let at : ℕ = c.mark_tag-at.result in
     let kept = c.loop-index.invariant in
-    let count : length c.args.bytes.now / c.from.result ≡ tags_in c.args.width c.args.bytes.now = ap (λ (n : ℕ). length c.args.bytes.now / n) c.from.ensures in
-    let low : k < tags_in c.args.width c.args.bytes.now = omega (arith, count) in
-    let many : length tags ≡ tags_in c.args.width c.args.bytes.now = length-padded_tags c.args.width c.args.bytes.now in
-    let here : c.tag_at.result ≡ get_or tags k [] = c.tag_at.ensures ∙ sym (get_or-padded_tags c.args.width c.args.bytes.now k low) in
+    let count : length c.args.bytes.now / c.from.result ≡ tags_in c.args.tag_length c.args.bytes.now = ap (λ (n : ℕ). length c.args.bytes.now / n) (c.from.ensures ∙ c.get.ensures.same) in
+    let low : k < tags_in c.args.tag_length c.args.bytes.now = omega (arith, count) in
+    let many : length tags ≡ tags_in c.args.tag_length c.args.bytes.now = length-padded_tags c.args.tag_length c.args.bytes.now in
+    let here : c.tag_at.result ≡ get_or tags k [] = c.tag_at.ensures ∙ sym (get_or-padded_tags c.args.tag_length c.args.bytes.now k low) in
     let before : (j : ℕ) → j < at → is_below (get_or tags k []) (get_or own j []) ≡ false =
     λ j l. ap (λ (tag : List ℕ). is_below tag (get_or own j [])) (sym here) ∙ c.mark_tag-at.ensures.place.before j l in
     let more : (x : List ℕ) → is_among (take (k + 1) tags) x ≡ (is_among (take k tags) x || bytes_eq x (get_or tags k [])) =
@@ -36,11 +36,11 @@ loop-index-preserved c =
       within = c.mark_tag-at.ensures.place.within;
       from = omega arith;
       passed = λ j l next. passed_later (get_or tags k []) (get_or tags (k + 1) []) (get_or own j []) (before j l)
-          (padded_tags_rise c.args.width c.args.bytes.now k c.requires.block next);
+          (padded_tags_rise c.args.tag_length c.args.bytes.now k c.requires.block next);
       met = λ j from l next tie.
           let same : get_or own j [] ≡ get_or tags (k + 1) [] = same_from_bytes_eq (get_or own j []) (get_or tags (k + 1) []) tie in
           let level : is_below (get_or own j []) (get_or tags k []) ≡ false =
-          ap (λ (x : List ℕ). is_below x (get_or tags k [])) same ∙ padded_tags_rise c.args.width c.args.bytes.now k c.requires.block next in
+          ap (λ (x : List ℕ). is_below x (get_or tags k [])) same ∙ padded_tags_rise c.args.tag_length c.args.bytes.now k c.requires.block next in
           more (get_or own j [])
           ∙ sym (or_true (is_among (take k tags) (get_or own j [])) (bytes_eq (get_or own j []) (get_or tags k []))
           (bytes_eq-same (get_or own j []) (get_or tags k []) (one_of_two (get_or own j []) (get_or tags k []) level (before j l))));
@@ -66,8 +66,8 @@ loop-index-preserved c =
 
 pub returns-clause-marked : goal.returns-clause-marked
 returns-clause-marked c = λ j from l.
-    let tags : List (List ℕ) = padded_tags c.args.width c.args.bytes.now in
-    let count : length c.args.bytes.now / c.from.result ≡ tags_in c.args.width c.args.bytes.now = ap (λ (n : ℕ). length c.args.bytes.now / n) c.from.ensures in
+    let tags : List (List ℕ) = padded_tags c.args.tag_length c.args.bytes.now in
+    let count : length c.args.bytes.now / c.from.result ≡ tags_in c.args.tag_length c.args.bytes.now = ap (λ (n : ℕ). length c.args.bytes.now / n) (c.from.ensures ∙ c.get.ensures.same) in
     c.loop-index.invariant.marked j from l
     ∙ ap (λ (ts : List (List ℕ)). get_or c.args.hits.now j false || is_among ts (get_or c.args.own.now j []))
-    (take_all c.loop-index.index tags (omega (arith, count, length-padded_tags c.args.width c.args.bytes.now)))
+    (take_all c.loop-index.index tags (omega (arith, count, length-padded_tags c.args.tag_length c.args.bytes.now)))

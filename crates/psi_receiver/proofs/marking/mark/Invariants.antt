@@ -10,14 +10,14 @@ abbrev pub invariant-loop-index : goal.invariant-loop-index
 invariant-loop-index l = record {
   within : l.at ≤ length l.own;
   from : l.from ≤ l.at;
-  passed : (j : ℕ) → j < l.at → l.index < tags_in l.width l.bytes
-      → is_below (get_or (padded_tags l.width l.bytes) l.index []) (get_or l.own j []) ≡ false;
-  met : (j : ℕ) → l.from ≤ j → j < l.at → l.index < tags_in l.width l.bytes
-      → bytes_eq (get_or l.own j []) (get_or (padded_tags l.width l.bytes) l.index []) ≡ true
-      → is_among (take l.index (padded_tags l.width l.bytes)) (get_or l.own j []) ≡ true;
+  passed : (j : ℕ) → j < l.at → l.index < tags_in l.tag_length l.bytes
+      → is_below (get_or (padded_tags l.tag_length l.bytes) l.index []) (get_or l.own j []) ≡ false;
+  met : (j : ℕ) → l.from ≤ j → j < l.at → l.index < tags_in l.tag_length l.bytes
+      → bytes_eq (get_or l.own j []) (get_or (padded_tags l.tag_length l.bytes) l.index []) ≡ true
+      → is_among (take l.index (padded_tags l.tag_length l.bytes)) (get_or l.own j []) ≡ true;
   kept : (j : ℕ) → j < l.from → get_or l.hits j false ≡ get_or l.initial.hits j false;
   marked : (j : ℕ) → l.from ≤ j → j < length l.own
       → get_or l.hits j false
-      ≡ (get_or l.initial.hits j false || is_among (take l.index (padded_tags l.width l.bytes)) (get_or l.own j []));
-  count : 1 ≤ l.index → l.at ≡ not_above (get_or (padded_tags l.width l.bytes) (l.index - 1) []) l.own;
+      ≡ (get_or l.initial.hits j false || is_among (take l.index (padded_tags l.tag_length l.bytes)) (get_or l.own j []));
+  count : 1 ≤ l.index → l.at ≡ not_above (get_or (padded_tags l.tag_length l.bytes) (l.index - 1) []) l.own;
 }

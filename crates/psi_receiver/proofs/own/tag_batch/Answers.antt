@@ -22,7 +22,7 @@ returns c =
     let long : length numbers ≡ length c.args.out.now = c.put_numbers.auto.numbers ∙ length-take-le (length c.args.out.now) _ c.requires.batch in
     let words : c.put_words.new.words ≡ map (λ (number : ℕ). get_or rows number []) numbers = c.put_words.ensures in
     let made : c.tags.new.out ≡ zip2 formula numbers c.put_words.new.words =
-    c.tags.ensures ∙ (λ i. zip2 (padded_tag (c.key.ensures i) (c.width.ensures.width i)) numbers c.put_words.new.words) in
+    c.tags.ensures ∙ (λ i. zip2 (padded_tag (c.key.ensures i) (c.tag_length.ensures i)) numbers c.put_words.new.words) in
     made
     ∙ (ap (zip2 formula numbers) words
     ∙ (ap (λ (all : List ℕ). zip2 formula all (map (λ (number : ℕ). get_or rows number []) all)) c.put_numbers.ensures

@@ -9,6 +9,6 @@ pub returns : goal.returns
 returns c =
     let formula = padded_tag c.args.deal.now.key c.args.deal.now.tag_length in
     c.tags.ensures
-    ∙ ((λ i. zip2 (padded_tag (c.key.ensures i) (c.width.ensures.width i)) c.args.rows.now (c.put_words.ensures i))
+    ∙ ((λ i. zip2 (padded_tag (c.key.ensures i) (c.tag_length.ensures i)) c.args.rows.now (c.put_words.ensures i))
     ∙ ((λ i. zip2 formula c.args.rows.now (zip2 (flipped_word (c.choice.ensures i) c.args.opened.now) c.args.rows.now c.args.codes.now))
     ∙ zip2-nested formula (flipped_word c.args.deal.now.choice c.args.opened.now) c.args.rows.now c.args.codes.now))

@@ -6,5 +6,5 @@ use Rattle.psi_sender.proofs.steps.put_tags.Goals as goal
 
 pub returns-clause-outbox : goal.returns-clause-outbox
 returns-clause-outbox c =
-    let tags = (λ i. map (λ tag. take (c.width-width.ensures.width i) tag) (c.deref.ensures.value i)) ∙ c.ready_tags.ensures.made in
+    let tags = (λ i. map (λ tag. take (c.tag_length.ensures i) tag) (c.deref.ensures.value i)) ∙ c.ready_tags.ensures.made in
     c.put_block.ensures ∙ (λ i. with_added (layout (block_frame c.args.list (tags i) c.args.block)) ((ap (λ m. m.outbox) c.ready_tags.ensures.memory) i))

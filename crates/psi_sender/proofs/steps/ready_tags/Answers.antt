@@ -19,4 +19,4 @@ returns-then-block-eq0-clause-made c =
     let out = c.make_list.new.out in
     ap (map cut) (take_at out (drop (length out) memory.tags.items) memory.tags.len (c.make_list.auto.out ∙ c.deref_mut.ensures.len))
     ∙ (ap (map cut) (c.make_list.ensures ∙ ap₂ (λ words bins. rising (made_list deal words bins memory.hashes c.args.list)) c.words.ensures c.bins.ensures)
-    ∙ sorted_list_is deal c.args.count memory.rows memory.columns.columns (λ j l. c.requires.answering.rows j (let same = c.requires.holds.rows in omega arith)) c.args.items.now c.args.list memory.hashes c.requires.width c.requires.answering.lists c.requires.holds.hashes)
+    ∙ sorted_list_is deal c.args.count memory.rows memory.columns.columns (λ j l. c.requires.answering.rows j (let same = c.requires.holds.rows in omega arith)) c.args.items.now c.args.list memory.hashes c.requires.holds.tag_length c.requires.answering.lists c.requires.holds.hashes)

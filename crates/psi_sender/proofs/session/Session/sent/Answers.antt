@@ -15,6 +15,7 @@ invariant_of-self c =
       holds = record {
         rows = kept.holds.rows;
         opened = kept.holds.opened;
+        tag_length = kept.holds.tag_length;
         hashes = kept.holds.hashes;
         tags = kept.holds.tags;
         block = kept.holds.block;
