@@ -31,7 +31,7 @@ use Rattle.psi_deal.specs.declared.errors.DealField.{DealField}
 use Rattle.psi_cuckoo.specs.declared.errors.BadSlots.{BadSlots}
 use Rattle.psi_cuckoo.specs.declared.errors.BadSlots.TheVariants.{NoMemory}
 use Rattle.psi_receiver.specs.Receiving.{hits_of}
-use Rattle.psi_session.specs.Transcripts.{lists_for}
+use Rattle.psi_spec.specs.Sessions.{dealt_lists}
 use Rattle.psi_audit.specs.Comparing.{Compared, IsCompared, shared_from}
 use Rattle.psi_audit.specs.Verdicts.{consistent, differs_at, row_slot, slots_fault, verdict_of, wire_verdict}
 use Rattle.psi_audit.specs.declared.comparing.Difference.{Difference}
@@ -161,7 +161,7 @@ map_same {A} {B} f g (x ∷ xs) h = ap₂ (λ (y : B) (ys : List B). y ∷ ys) (
 
 pub hits_are_shown : (receiver : ReceiverDeal) (sender : SenderDeal) (xs ys : List (List ℕ)) (slots : List Slot) → ArePair receiver sender → length receiver.seeds ≡ 512 → length sender.choice ≡ 64
     → IsPlacementOf receiver.stash receiver.key (bins_for (length xs)) xs slots
-    → hits_of receiver (placed_of xs slots) (lists_for receiver sender (placed_of xs slots) ys) ≡ map (is_shown (pair_setup receiver sender xs slots) ys) (placed_of xs slots)
+    → hits_of receiver (placed_of xs slots) (dealt_lists receiver sender (placed_of xs slots) ys) ≡ map (is_shown (pair_setup receiver sender xs slots) ys) (placed_of xs slots)
 unfolding hits_of
 hits_are_shown receiver sender xs ys slots pair seeds choice placement =
     let placed : List Placed = placed_of xs slots in

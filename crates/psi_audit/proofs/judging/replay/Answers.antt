@@ -9,7 +9,7 @@ use Rattle.psi_spec.proofs.Dealing.{length-placement}
 use Rattle.psi_spec.proofs.Placing.{length-placed_of}
 use Rattle.psi_receiver.specs.Receiving.{hits_of}
 use Rattle.psi_receiver.proofs.Hearing.{width_of}
-use Rattle.psi_session.specs.Transcripts.{lists_for}
+use Rattle.psi_spec.specs.Sessions.{dealt_lists}
 use Rattle.psi_audit.specs.Comparing.{IsCompared}
 use Rattle.psi_audit.specs.Verdicts.{consistent}
 use Rattle.psi_audit.specs.declared.verdict.Verdict.TheVariants.{Differs}
@@ -58,7 +58,7 @@ consistent-requires-clause-marks c =
     let placed = c.in_ok-receiver.ensures.placed in
     let other = ap (λ z. z.deal) c.new-sender.ensures.state in
     let items = ap (λ z. z.items) c.new-sender.ensures.state in
-    c.shown.ensures.shown ∙ (c.in_ok-exchange.ensures.shown ∙ ((λ j. hits_of (deal j) (placed j) (lists_for (deal j) (other j) (placed j) (items j)))
+    c.shown.ensures.shown ∙ (c.in_ok-exchange.ensures.shown ∙ ((λ j. hits_of (deal j) (placed j) (dealt_lists (deal j) (other j) (placed j) (items j)))
     ∙ hits_are_shown i.receiver.now i.sender.now i.own.now i.peer.now i.placement.now c.requires.inputs.pair c.new.ensures.sizes.count c.new-sender.ensures.deal.choice c.requires.inputs.placed))
 
 pub returns : goal.returns
