@@ -242,6 +242,7 @@ tags_read n width list block floor f few w small valid =
     by_parts (receiver_hello id session count) parts = absurd parts
     by_parts (sender_hello id session count) parts = absurd parts
     by_parts (column_frame index bytes) parts = absurd parts
+    by_parts (values_frame block values) parts = absurd parts
     by_parts done_frame parts = absurd parts
 
 -- the blocks of a list that came, and the frames after them

@@ -57,6 +57,7 @@ is_hello (frame.ReceiverHello i s n) id session count other e = cc
 is_hello (frame.SenderHello i s n) id session count other e = other i s n refl
 is_hello (frame.Column i b) id session count other e = cc
 is_hello (frame.Tags list block b) id session count other e = cc
+is_hello (frame.Values block b) id session count other e = cc
 is_hello frame.Done id session count other e = cc
 
 -- nor is one that has no tags seen as one of tags
@@ -65,6 +66,7 @@ is_tags (frame.ReceiverHello i s n) list block bytes other e = cc
 is_tags (frame.SenderHello i s n) list block bytes other e = cc
 is_tags (frame.Column i b) list block bytes other e = cc
 is_tags (frame.Tags l n b) list block bytes other e = other l n b refl
+is_tags (frame.Values n b) list block bytes other e = cc
 is_tags frame.Done list block bytes other e = cc
 
 -- ---- a block of tags

@@ -146,6 +146,7 @@ hello_read deal f bytes valid = by_parts f ((valid_by_parts (expect.SenderHello 
     by_parts (receiver_hello id session count) parts = absurd parts
     by_parts (column_frame index u) parts = absurd parts
     by_parts (tags_frame list block tags) parts = absurd parts
+    by_parts (values_frame block values) parts = absurd parts
     by_parts done_frame parts = absurd parts
 
 -- frames are those of a sender's stream with a count and lists

@@ -195,6 +195,7 @@ tags_for-append width list [] more = refl
 tags_for-append width list (receiver_hello id session count ∷ frames) more = tags_for-append width list frames more
 tags_for-append width list (sender_hello id session count ∷ frames) more = tags_for-append width list frames more
 tags_for-append width list (column_frame index bytes ∷ frames) more = tags_for-append width list frames more
+tags_for-append width list (values_frame block values ∷ frames) more = tags_for-append width list frames more
 tags_for-append width list (done_frame ∷ frames) more = tags_for-append width list frames more
 tags_for-append width list (tags_frame of_list block bytes ∷ frames) more =
     let first : List (List ℕ) = cond (of_list == list) (padded_tags width bytes) [] in

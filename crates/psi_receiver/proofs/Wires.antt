@@ -149,6 +149,7 @@ hello_at (expect.SenderHello own_id own_session) bytes id session count is = (ow
 hello_at (expect.ReceiverHello own_id own_session) bytes id session count is = absurd (cc)
 hello_at (expect.Column index rows) bytes id session count is = absurd (cc)
 hello_at (expect.Tags list block tags width floor) bytes id session count is = absurd (cc)
+hello_at (expect.Values block tags tag_length) bytes id session count is = absurd (cc)
 hello_at expect.Done bytes id session count is = absurd (cc)
 
 -- a hello is not due among lists

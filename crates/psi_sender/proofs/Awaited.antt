@@ -104,6 +104,7 @@ column_read c rows f few bytes valid = by_parts f bytes ((valid_by_parts (expect
     by_parts (receiver_hello id session count) bytes parts = absurd parts
     by_parts (sender_hello id session count) bytes parts = absurd parts
     by_parts (tags_frame list block tags) bytes parts = absurd parts
+    by_parts (values_frame block values) bytes parts = absurd parts
     by_parts done_frame bytes parts = absurd parts
 
 end_read : (f : Frame) → AreBytes (layout f) → IsValid expect.Done f → f ≡ done_frame
@@ -115,6 +116,7 @@ end_read f bytes valid = by_parts f ((valid_by_parts expect.Done f bytes (omega 
     by_parts (sender_hello id session count) parts = absurd parts
     by_parts (column_frame index bytes) parts = absurd parts
     by_parts (tags_frame list block tags) parts = absurd parts
+    by_parts (values_frame block values) parts = absurd parts
 
 pub columns_read : (deal : SenderDeal) (ys : List (List ℕ)) (count : ℕ) (opened chosen : List (List ℕ)) (frames : List Frame)
     → FewRows (rows_for deal.stash count) → AreBytes (flat_map layout frames) → AreAwaited (opens_columns deal ys count opened chosen) frames

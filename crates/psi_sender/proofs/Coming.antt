@@ -90,6 +90,7 @@ is_column (frame.ReceiverHello id session count) index bytes other e = cc
 is_column (frame.SenderHello id session count) index bytes other e = cc
 is_column (frame.Column i b) index bytes other e = other i b refl
 is_column (frame.Tags list block b) index bytes other e = cc
+is_column (frame.Values block b) index bytes other e = cc
 is_column frame.Done index bytes other e = cc
 
 -- nor is one that is no receiver's hello seen as one
@@ -98,4 +99,5 @@ is_hello (frame.ReceiverHello i s n) id session count other e = other i s n refl
 is_hello (frame.SenderHello i s n) id session count other e = cc
 is_hello (frame.Column i b) id session count other e = cc
 is_hello (frame.Tags list block b) id session count other e = cc
+is_hello (frame.Values block b) id session count other e = cc
 is_hello frame.Done id session count other e = cc

@@ -101,6 +101,7 @@ hello_read deal f bytes valid = by_parts f ((valid_by_parts (expect.ReceiverHell
     by_parts (sender_hello id session count) parts = absurd parts
     by_parts (column_frame index u) parts = absurd parts
     by_parts (tags_frame list block tags) parts = absurd parts
+    by_parts (values_frame block values) parts = absurd parts
     by_parts done_frame parts = absurd parts
 
 -- the frames that a sender awaited are those of a receiver's stream
