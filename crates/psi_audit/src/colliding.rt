@@ -38,11 +38,11 @@ fn own_listed(inputs: &Inputs<'_>, rows: &SessionRows, slot: Slot) -> ListedTag
     ensures { result ≡ own_listed (setup_in inputs.now) (slot_of slot) }
 {
     let key = inputs.receiver.key();
-    let width = inputs.receiver.width();
+    let tag_length = inputs.receiver.tag_length();
     let word = rows.zero.row(slot.row);
     ListedTag {
         list: list_of(slot, bins(inputs.own.len())),
-        tag: own_tag(key, width, slot.row, word),
+        tag: own_tag(key, tag_length, slot.row, word),
     }
 }
 

@@ -30,7 +30,7 @@ fn word_tag(inputs: &Inputs<'_>, rows: &SessionRows, row: u32, code: &Word512) -
 {
     peer_tag(
         inputs.receiver.key(),
-        inputs.receiver.width(),
+        inputs.receiver.tag_length(),
         row,
         rows.zero.row(row),
         inputs.sender.choice(),

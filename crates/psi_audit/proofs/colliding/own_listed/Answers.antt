@@ -13,5 +13,5 @@ returns c =
     let bins = c.bins.ensures ∙ ap bins_for c.len.ensures.len in
     let list = c.list_of.ensures ∙ ap (λ n. list_of_slot n (slot_of slot)) bins in
     let word = c.row-word.ensures ∙ c.requires.rows.zero slot.row c.requires.row in
-    let tag = c.own_tag.ensures ∙ ((λ j. padded_tag (c.key-key.ensures j) (c.width-width.ensures.width j) slot.row (word j)) ∙ own_padded (setup_in c.args.inputs.now) (slot_of slot)) in
+    let tag = c.own_tag.ensures ∙ ((λ j. padded_tag (c.key-key.ensures j) (c.tag_length-tag_length.ensures j) slot.row (word j)) ∙ own_padded (setup_in c.args.inputs.now) (slot_of slot)) in
     λ j. record { list = list j; tag = tag j }

@@ -14,4 +14,4 @@ returns c =
     let zero = c.row.ensures ∙ c.requires.rows.zero row c.requires.row in
     let word = c.row-2.ensures ∙ word_at i c.args.rows.now row c.requires.rows c.requires.row in
     let code = c.xor.ensures.word ∙ ap (λ w. xor w c.args.code.now) word in
-    c.peer_tag.ensures ∙ (λ j. padded_tag (c.key.ensures j) (c.width.ensures.width j) row (xor (zero j) (both (c.choice.ensures j) (code j))))
+    c.peer_tag.ensures ∙ (λ j. padded_tag (c.key.ensures j) (c.tag_length.ensures j) row (xor (zero j) (both (c.choice.ensures j) (code j))))
