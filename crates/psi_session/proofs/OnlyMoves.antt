@@ -13,6 +13,7 @@ some_bytes (receiver_hello id session count) none = omega (arith, ap length none
 some_bytes (sender_hello id session count) none = omega (arith, ap length none)
 some_bytes (column_frame index bytes) none = omega (arith, ap length none)
 some_bytes (tags_frame list block tags) none = omega (arith, ap length none)
+some_bytes (values_frame block values) none = omega (arith, ap length none)
 some_bytes done_frame none = omega (arith, ap length none)
 
 -- an end that owes a frame first owes some bytes
