@@ -7,7 +7,7 @@ use Rattle.std.proofs.lemmas.List.{append-nil, drop-append-le, drop-drop, drop_a
 use Rattle.std.proofs.lemmas.List.Elements.{All-from_recursion, recursion_from_All}
 use Rattle.std.proofs.Math.Nat.{mul-le-mul_right}
 use Rattle.std.proofs.lemmas.Grind.{flat_map-append}
-use Rattle.psi_spec.specs.Frames.{AreBytes, Frame, is_below, layout, receiver_hello, sender_hello, column_frame, tags_frame, done_frame, tags_of}
+use Rattle.psi_spec.specs.Frames.{AreBytes, Frame, is_below, layout, receiver_hello, sender_hello, column_frame, tags_frame, values_frame, done_frame, tags_of}
 use Rattle.psi_spec.specs.Streams.{layouts, block_frame, blocks_for, list_frames, lists_frames}
 use Rattle.psi_spec.specs.TagLists.{IsTagList}
 use Rattle.psi_spec.proofs.Frames.{AreBytes-take, none_below_zeros}

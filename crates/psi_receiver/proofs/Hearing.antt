@@ -7,7 +7,7 @@ use Rattle.std.proofs.lemmas.List.{append-nil, take_at, drop_at}
 use Rattle.std.proofs.lemmas.List.Elements.{All-from_recursion, recursion_from_All}
 use Rattle.psi_spec.specs.Limits.{limit_items}
 use Rattle.psi_spec.specs.Deals.{ReceiverDeal, IsReceiverDeal}
-use Rattle.psi_spec.specs.Frames.{AreBytes, Frame, layout, receiver_hello, sender_hello, column_frame, tags_frame, done_frame}
+use Rattle.psi_spec.specs.Frames.{AreBytes, Frame, layout, receiver_hello, sender_hello, column_frame, tags_frame, values_frame, done_frame}
 use Rattle.psi_spec.specs.Meeting.{Placed}
 use Rattle.psi_spec.specs.Sessions.{dealt_masked, wire_bytes}
 use Rattle.psi_spec.specs.Streams.{layouts, blocks_for, column_frames, columns_stream, list_frames, lists_frames, lists_stream, receiver_stream}

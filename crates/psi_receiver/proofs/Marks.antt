@@ -9,7 +9,7 @@ use Rattle.std.proofs.lemmas.List.{append-nil, get_or-map, get_or_default}
 use Rattle.std.proofs.lemmas.List.Elements.{All-from_recursion, All-get_or}
 use Rattle.std.proofs.lemmas.List.Folds.{list_any-append, list_any_at}
 use Rattle.std.proofs.lemmas.List.Sorted.{sorted_far}
-use Rattle.psi_spec.specs.Frames.{Frame, is_below, receiver_hello, sender_hello, column_frame, tags_frame, done_frame, tags_of}
+use Rattle.psi_spec.specs.Frames.{Frame, is_below, receiver_hello, sender_hello, column_frame, tags_frame, values_frame, done_frame, tags_of}
 use Rattle.psi_spec.specs.Formulas.{padded}
 use Rattle.psi_spec.proofs.StreamSteps.{length-tags_of, tags_of_are_long}
 use Rattle.std.proofs.lemmas.Nat.{div-mul-add}

@@ -10,7 +10,7 @@ use Rattle.psi_spec.specs.Columns.{column_bytes, row_of}
 use Rattle.psi_spec.specs.Matrices.{IsColumn}
 use Rattle.psi_spec.specs.ColumnSets.{opened_column, opened_from}
 use Rattle.psi_spec.specs.Deals.{SenderDeal}
-use Rattle.psi_spec.specs.Frames.{AreBytes, Frame, layout, receiver_hello, sender_hello, column_frame, tags_frame, done_frame}
+use Rattle.psi_spec.specs.Frames.{AreBytes, Frame, layout, receiver_hello, sender_hello, column_frame, tags_frame, values_frame, done_frame}
 use Rattle.psi_spec.specs.Streams.{layouts, column_frames, sender_answer}
 use Rattle.psi_frames.specs.declared.expect.Expect.TheVariants as expect
 use Rattle.psi_frames.specs.Expected.{IsValid}

@@ -8,7 +8,7 @@ use Rattle.psi_spec.specs.Limits.{limit_items, rows_for}
 use Rattle.psi_spec.specs.Matrices.{IsColumn, IsColumnSet}
 use Rattle.psi_spec.specs.ColumnSets.{opened_columns}
 use Rattle.psi_spec.specs.Deals.{SenderDeal, IsSenderDeal, sender_columns}
-use Rattle.psi_spec.specs.Frames.{AreBytes, Frame, layout, receiver_hello, sender_hello, column_frame, tags_frame, done_frame}
+use Rattle.psi_spec.specs.Frames.{AreBytes, Frame, layout, receiver_hello, sender_hello, column_frame, tags_frame, values_frame, done_frame}
 use Rattle.psi_spec.specs.Streams.{layouts, column_frames, columns_stream, sender_stream}
 use Rattle.psi_spec.proofs.DealtColumns.{are_columns, sender_columns_are}
 use Rattle.psi_spec.proofs.Opening.{opened_columns_answer}

@@ -1,6 +1,6 @@
 -- Two ends play in one way only.
 use Rattle.std.proofs.Common.{◌≡◌, ◌∙◌, ℕ, List, [], ◌∷◌, length, take, Option, Some, None, refl, sym, ap, ap₂, subst, arith}
-use Rattle.psi_spec.specs.Frames.{Frame, layout, receiver_hello, sender_hello, column_frame, tags_frame, done_frame}
+use Rattle.psi_spec.specs.Frames.{Frame, layout, receiver_hello, sender_hello, column_frame, tags_frame, values_frame, done_frame}
 use Rattle.psi_spec.proofs.Frames.{same_frame}
 use Rattle.psi_frames.specs.declared.expect.Expect.{Expect}
 use Rattle.psi_frames.specs.Script.{EndState, MayCome, Script, after_taking, awaits, due_after, due_frame, over, sends}
