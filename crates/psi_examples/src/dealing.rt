@@ -66,7 +66,7 @@ fn sizes_stand_in_the_file(rt: HostRuntime) -> Result<(), Fail> {
         let texts = ["deal", Z, "18446744073709551615", word, "r", "s"];
         expect_run(&rt, &texts, &mut world, DONE, b"", word)?;
         let deal = read_sender(rt.alloc(), content(&world, "s"))?;
-        assert_eq!(rt; deal.width(), tag_length, "at {word}");
+        assert_eq!(rt; deal.tag_length().get(), tag_length, "at {word}");
         assert_eq!(rt; deal.stash(), stash, "at {word}");
         assert_eq!(rt; deal.session(), u64::MAX, "at {word}");
     }

@@ -23,17 +23,17 @@ use Rattle.psi_walk.specs.Tree.{Effect, says, puts, Tree, places, opens, talks, 
 -- the tags of a list, of which so many are left in so many blocks: the tags of each come behind the ten bytes that its
 -- frame begins with
 unfoldable pub tags_in : ℕ → ℕ → ℕ → List ℕ → List (List ℕ)
-tags_in width zero count bytes = []
-tags_in width (suc blocks) count bytes =
-    tags_of (min block_tags count) width (drop 10 bytes)
-    ++ tags_in width blocks (count - block_tags) (drop (10 + width * min block_tags count) bytes)
+tags_in tag_length zero count bytes = []
+tags_in tag_length (suc blocks) count bytes =
+    tags_of (min block_tags count) tag_length (drop 10 bytes)
+    ++ tags_in tag_length blocks (count - block_tags) (drop (10 + tag_length * min block_tags count) bytes)
 
 -- so many lists of `count` tags each, one behind the other
 unfoldable pub lists_in : ℕ → ℕ → ℕ → List ℕ → List (List (List ℕ))
-lists_in width count zero bytes = []
-lists_in width count (suc lists) bytes =
-    tags_in width (blocks_for count) count bytes
-    ∷ lists_in width count lists (drop (10 * blocks_for count + width * count) bytes)
+lists_in tag_length count zero bytes = []
+lists_in tag_length count (suc lists) bytes =
+    tags_in tag_length (blocks_for count) count bytes
+    ∷ lists_in tag_length count lists (drop (10 * blocks_for count + tag_length * count) bytes)
 
 -- the lists of a sender's stream: they come behind its hello of 34 bytes, the last four of which say how many tags each
 -- list has

@@ -43,7 +43,7 @@ pub fn sender_length(deal: &ReceiverDeal, peer: u32) -> u64
     requires { IsReceiverDeal deal.now }
     ensures { result ≡ sender_stream_size deal.now peer }
 {
-    u64::from(HELLO_SIZE) + lists_size(3 + deal.stash(), deal.width(), peer)
+    u64::from(HELLO_SIZE) + lists_size(3 + deal.stash(), deal.tag_length(), peer)
 }
 
 /// How many bytes both ends exchange: the receiver, which has so many items, and a sender of so many.
