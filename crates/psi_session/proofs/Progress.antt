@@ -7,7 +7,7 @@ use Rattle.psi_spec.specs.Frames.{Frame, layout}
 use Rattle.psi_frames.specs.declared.expect.Expect.{Expect}
 use Rattle.psi_frames.specs.declared.reasons.BadFrame.{BadFrame}
 use Rattle.psi_frames.specs.Boxes.{InboxState, IsRefusal, MayExpect, with_lent}
-use Rattle.psi_frames.specs.Expected.{FitsFloor, IsValid, IsWhole, frame_length}
+use Rattle.psi_frames.specs.Expected.{IsValid, IsWhole, frame_length}
 use Rattle.psi_frames.specs.Script.{EndState, IsWithin, Keeps, KeepsOn, MayCome, Script, after_frame, after_taking, awaits, due_after, due_frame}
 use Rattle.psi_frames.proofs.Judged.{one_frame}
 use Rattle.psi_frames.proofs.Scripts.{within-goes_on}
@@ -161,15 +161,14 @@ played_none first second kept_by_first kept_by_second hears box plays few few' e
 
 -- an end that awaits a frame, which fits an inbox, awaits less after it
 pub within_due : (e : Expect) (most : ℕ) (state : EndState) → due_frame state ≡ Some e → IsWithin most state.next
-    → (0 < most) × FitsFloor e × (frame_length e ≤ inbox_room) × ((f : Frame) → IsValid e f → IsWithin (most - 1) (after_taking f state).next)
+    → (0 < most) × (frame_length e ≤ inbox_room) × ((f : Frame) → IsValid e f → IsWithin (most - 1) (after_taking f state).next)
 within_due e most state due few =
     let is = due_by state.owes state.next e due in
     let next : Frame → Script = is.0 in
     let within : IsWithin most (awaits e next) = subst (λ (s : Script). IsWithin most s) is.2 few in (
       within.0,
       within.1,
-      within.2,
-      λ f valid. subst (λ (s : EndState). IsWithin (most - 1) s.next) (sym (ap (λ (s : Script). after_frame s f state) is.2)) (within-goes_on false (next f) (most - 1) (within.3 f valid)),
+      λ f valid. subst (λ (s : EndState). IsWithin (most - 1) s.next) (sym (ap (λ (s : Script). after_frame s f state) is.2)) (within-goes_on false (next f) (most - 1) (within.2 f valid)),
     )
 
 -- so the inbox may expect it
@@ -177,9 +176,8 @@ pub may_expect : (e : Expect) (box : InboxState) (n m most : ℕ) (state : EndSt
 may_expect e box n m most state roomy few due within =
     let fits = within_due e most state due within in
     record {
-      floor = fits.1;
-      room = omega (arith, fits.2, roomy.room);
-      offset = omega (arith, fits.0, fits.2, roomy.small);
+      room = omega (arith, fits.1, roomy.room);
+      offset = omega (arith, fits.0, fits.1, roomy.small);
       held = omega (arith, ap length roomy.held);
       refused = subst (λ (o : Option BadFrame). IfSome o (IsRefusal box e)) (sym roomy.refused) tt;
     }
@@ -222,8 +220,8 @@ played_by_first e first second first' second' first'' second'' a a' a'' b b' b''
       first_most = so_far.first_most;
       second_most = so_far.second_most - 1;
       first_few = subst (λ (s : EndState). IsWithin so_far.first_most s.next) (sym passed.sent) so_far.first_few;
-      second_few = subst (λ (s : EndState). IsWithin (so_far.second_most - 1) s.next) (sym passed.taken) (fits.3 f valid);
-      roomy = lent_roomy e box box' so_far.first_most so_far.second_most so_far.first_most (so_far.second_most - 1) so_far.roomy fits.2 (omega (arith, some)) lent;
+      second_few = subst (λ (s : EndState). IsWithin (so_far.second_most - 1) s.next) (sym passed.taken) (fits.2 f valid);
+      roomy = lent_roomy e box box' so_far.first_most so_far.second_most so_far.first_most (so_far.second_most - 1) so_far.roomy fits.1 (omega (arith, some)) lent;
     }
 
 pub played_by_second : {A B T : Type 0} (e : Expect) (first second first' second' first'' second'' : EndState) (a a' a'' : Keeps A) (b b' b'' : Keeps B) (t t' t'' : Hearing T) (box box' : InboxState)
@@ -250,9 +248,9 @@ played_by_second e first second first' second' first'' second'' a a' a'' b b' b'
       heard = heard-one t t' t'' so_far.made move so_far.heard passed.heard;
       first_most = so_far.first_most - 1;
       second_most = so_far.second_most;
-      first_few = subst (λ (s : EndState). IsWithin (so_far.first_most - 1) s.next) (sym passed.taken) (fits.3 f valid);
+      first_few = subst (λ (s : EndState). IsWithin (so_far.first_most - 1) s.next) (sym passed.taken) (fits.2 f valid);
       second_few = subst (λ (s : EndState). IsWithin so_far.second_most s.next) (sym passed.sent) so_far.second_few;
-      roomy = lent_roomy e box box' so_far.first_most so_far.second_most (so_far.first_most - 1) so_far.second_most so_far.roomy fits.2 (omega (arith, some)) lent;
+      roomy = lent_roomy e box box' so_far.first_most so_far.second_most (so_far.first_most - 1) so_far.second_most so_far.roomy fits.1 (omega (arith, some)) lent;
     }
 
 -- less moves are left after it
