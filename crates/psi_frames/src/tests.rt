@@ -1,10 +1,11 @@
 // Worked frames: their bytes, and what an inbox answers to bytes in the place of an expected one.
-ghost use Rattle.std.specs.Prelude.{◌≤◌, length};
+ghost use Rattle.std.specs.Prelude.{◌≡◌, ◌≤◌, length, true};
+ghost use Rattle.psi_spec.specs.Deals.{fits_tag_length};
 ghost use Rattle.psi_spec.specs.Frames.{layout};
 ghost use Rattle.psi_frames.specs.Expected.{seen};
 
 use super::*;
-use psi_base::INBOX_ROOM;
+use psi_base::{INBOX_ROOM, TagLength};
 use std::alloc::Global;
 use std::process::Abort;
 use std::test::Fail;
@@ -75,42 +76,7 @@ const TAGS_FRAME: Frame<'static> = Frame::Tags {
     ],
 };
 
-const TAGS_DUE: Expect = Expect::Tags {
-    list: 2,
-    block: 0,
-    tags: 3,
-    width: 16,
-    floor: [0; 16],
-};
-
 const DONE: &[u8] = &[5, 0, 0, 0, 0];
-
-/// The first block of list 0, of two tags of one byte.
-const TWO_TAGS_DUE: Expect = Expect::Tags {
-    list: 0,
-    block: 0,
-    tags: 2,
-    width: 1,
-    floor: [0; 16],
-};
-
-/// A block of one tag of one byte, after the tag 7.
-const ONE_MORE_DUE: Expect = Expect::Tags {
-    list: 0,
-    block: 1,
-    tags: 1,
-    width: 1,
-    floor: [7, 0, 0, 0, 0, 0, 0, 0, 0, 0, 0, 0, 0, 0, 0, 0],
-};
-
-/// The first block of list 2, of one tag of one byte.
-const LAST_LIST_DUE: Expect = Expect::Tags {
-    list: 2,
-    block: 0,
-    tags: 1,
-    width: 1,
-    floor: [0; 16],
-};
 
 const TWO_EQUAL_TAGS: Frame<'static> = Frame::Tags {
     list: 0,
@@ -124,51 +90,106 @@ const ONE_MORE_TAG: Frame<'static> = Frame::Tags {
     bytes: &[7],
 };
 
+/// What a row expects. A constant can hold no length of a tag, so an `Expect` is made of it.
+#[derive(Clone, Copy)]
+enum Due {
+    Hello,
+    SenderHello,
+    Column,
+    FirstColumn,
+    /// The first block of list 2, of three tags of 16 bytes.
+    Tags,
+    /// The first block of list 0, of two tags of one byte.
+    TwoTags,
+    /// A block of one tag of one byte, after the tag 7.
+    OneMore,
+    /// The first block of list 2, of one tag of one byte.
+    LastList,
+    Done,
+}
+
+/// The length of a tag.
+fn tag_length(bytes: u8) -> TagLength
+    requires { fits_tag_length bytes ≡ true }
+    ensures { result ≡ bytes }
+{
+    TagLength::new(bytes).unwrap()
+}
+
+/// The block of a list, of so many tags of this length, after a tag that begins with the byte `before`.
+fn tags_due(list: u8, block: u32, tags: u16, tag_length: TagLength, before: u8) -> Expect {
+    let mut floor = [0; 16];
+    floor[0] = before;
+    Expect::Tags {
+        list,
+        block,
+        tags,
+        tag_length,
+        floor,
+    }
+}
+
+impl Due {
+    fn expect(self) -> Expect {
+        match self {
+            Due::Hello => HELLO_DUE,
+            Due::SenderHello => SENDER_HELLO_DUE,
+            Due::Column => COLUMN_DUE,
+            Due::FirstColumn => FIRST_COLUMN_DUE,
+            Due::Tags => tags_due(2, 0, 3, tag_length(16), 0),
+            Due::TwoTags => tags_due(0, 0, 2, tag_length(1), 0),
+            Due::OneMore => tags_due(0, 1, 1, tag_length(1), 7),
+            Due::LastList => tags_due(2, 0, 1, tag_length(1), 0),
+            Due::Done => Expect::Done,
+        }
+    }
+}
+
 /// The name of a row, what is expected, the bytes that are fed, how many of them are taken, and the frame.
-const READ: &[(&str, Expect, &[u8], usize, Option<Frame<'static>>)] = &[
-    ("receiver's hello", HELLO_DUE, HELLO, 34, Some(HELLO_FRAME)),
+const READ: &[(&str, Due, &[u8], usize, Option<Frame<'static>>)] = &[
+    ("receiver's hello", Due::Hello, HELLO, 34, Some(HELLO_FRAME)),
     (
         "sender's hello",
-        SENDER_HELLO_DUE,
+        Due::SenderHello,
         SENDER_HELLO,
         34,
         Some(SENDER_HELLO_FRAME),
     ),
-    ("last column", COLUMN_DUE, COLUMN, 10, Some(COLUMN_FRAME)),
-    ("tags of 16 bytes", TAGS_DUE, TAGS, 58, Some(TAGS_FRAME)),
-    ("end", Expect::Done, DONE, 5, Some(Frame::Done)),
+    ("last column", Due::Column, COLUMN, 10, Some(COLUMN_FRAME)),
+    ("tags of 16 bytes", Due::Tags, TAGS, 58, Some(TAGS_FRAME)),
+    ("end", Due::Done, DONE, 5, Some(Frame::Done)),
     (
         "byte after the end",
-        Expect::Done,
+        Due::Done,
         &[5, 0, 0, 0, 0, 5],
         5,
         Some(Frame::Done),
     ),
     (
         "equal tags",
-        TWO_TAGS_DUE,
+        Due::TwoTags,
         &[4, 0, 0, 0, 7, 0, 0, 0, 0, 0, 5, 5],
         12,
         Some(TWO_EQUAL_TAGS),
     ),
     (
         "tag that equals its floor",
-        ONE_MORE_DUE,
+        Due::OneMore,
         &[4, 0, 0, 0, 6, 0, 0, 0, 0, 1, 7],
         11,
         Some(ONE_MORE_TAG),
     ),
-    ("no byte", Expect::Done, &[], 0, None),
+    ("no byte", Due::Done, &[], 0, None),
     (
         "cut in the length",
-        FIRST_COLUMN_DUE,
+        Due::FirstColumn,
         &[3, 0, 0, 0],
         4,
         None,
     ),
     (
         "cut before the last tag",
-        TWO_TAGS_DUE,
+        Due::TwoTags,
         &[4, 0, 0, 0, 7, 0, 0, 0, 0, 0, 5],
         11,
         None,
@@ -207,23 +228,23 @@ const OTHER_LIST: Reason = Reason::List {
 };
 
 /// The name of a row, what is expected, the bytes that are fed, and why they are refused.
-const REFUSED: &[(&str, Expect, &[u8], Reason)] = &[
-    ("other kind", FIRST_COLUMN_DUE, &[4], OTHER_KIND),
+const REFUSED: &[(&str, Due, &[u8], Reason)] = &[
+    ("other kind", Due::FirstColumn, &[4], OTHER_KIND),
     (
         "other length",
-        FIRST_COLUMN_DUE,
+        Due::FirstColumn,
         &[3, 0, 0, 0, 6],
         OTHER_LENGTH,
     ),
     (
         "other version",
-        HELLO_DUE,
+        Due::Hello,
         &[1, 0, 0, 0, 29, 2],
         Reason::Version { found: 2 },
     ),
     (
         "other deal",
-        HELLO_DUE,
+        Due::Hello,
         &[
             0x01, 0, 0, 0, 0x1d, 0x01, 0x76, 0xb8, 0xe0, 0xad, 0xa0, 0xf1, 0x3d, 0x90, 0x40, 0x5d,
             0x6a, 0xe5, 0x53, 0x86, 0xbd, 0,
@@ -232,7 +253,7 @@ const REFUSED: &[(&str, Expect, &[u8], Reason)] = &[
     ),
     (
         "other session",
-        SENDER_HELLO_DUE,
+        Due::SenderHello,
         &[
             2, 0, 0, 0, 29, 1, 9, 9, 9, 9, 9, 9, 9, 9, 9, 9, 9, 9, 9, 9, 9, 9, 1, 0, 0, 0, 0, 0, 1,
             2,
@@ -243,7 +264,7 @@ const REFUSED: &[(&str, Expect, &[u8], Reason)] = &[
     ),
     (
         "too many items",
-        SENDER_HELLO_DUE,
+        Due::SenderHello,
         &[
             2, 0, 0, 0, 29, 1, 9, 9, 9, 9, 9, 9, 9, 9, 9, 9, 9, 9, 9, 9, 9, 9, 0, 0, 0, 0, 0, 0, 1,
             2, 0, 16, 0, 1,
@@ -252,32 +273,32 @@ const REFUSED: &[(&str, Expect, &[u8], Reason)] = &[
     ),
     (
         "other column, and a padding bit behind it",
-        FIRST_COLUMN_DUE,
+        Due::FirstColumn,
         &[3, 0, 0, 0, 5, 1, 0, 255, 255, 2],
         OTHER_COLUMN,
     ),
     (
         "padding bit",
-        FIRST_COLUMN_DUE,
+        Due::FirstColumn,
         &[3, 0, 0, 0, 5, 0, 0, 255, 255, 2],
         Reason::Padding { byte: 2 },
     ),
-    ("other list", LAST_LIST_DUE, &[4, 0, 0, 0, 6, 3], OTHER_LIST),
+    ("other list", Due::LastList, &[4, 0, 0, 0, 6, 3], OTHER_LIST),
     (
         "other block",
-        ONE_MORE_DUE,
+        Due::OneMore,
         &[4, 0, 0, 0, 6, 0, 0, 0, 0, 2],
         OTHER_BLOCK,
     ),
     (
         "falling tags",
-        TWO_TAGS_DUE,
+        Due::TwoTags,
         &[4, 0, 0, 0, 7, 0, 0, 0, 0, 0, 5, 3],
         Reason::Order { at: 1 },
     ),
     (
         "tag below its floor",
-        ONE_MORE_DUE,
+        Due::OneMore,
         &[4, 0, 0, 0, 6, 0, 0, 0, 0, 1, 6],
         Reason::Order { at: 0 },
     ),
@@ -302,17 +323,25 @@ fn check(
 
 #[test]
 fn frames_are_read(rt: HostRuntime) -> Result<(), Fail> {
-    for &(name, expect, fed, taken, frame) in READ {
-        check(&rt, rt.alloc(), name, &expect, fed, taken, Ok(frame))?;
+    for &(name, due, fed, taken, frame) in READ {
+        check(&rt, rt.alloc(), name, &due.expect(), fed, taken, Ok(frame))?;
     }
     Ok(())
 }
 
 #[test]
 fn wrong_fields_are_refused(rt: HostRuntime) -> Result<(), Fail> {
-    for &(name, expect, fed, reason) in REFUSED {
+    for &(name, due, fed, reason) in REFUSED {
         let bad = BadFrame { offset: 0, reason };
-        check(&rt, rt.alloc(), name, &expect, fed, fed.len(), Err(bad))?;
+        check(
+            &rt,
+            rt.alloc(),
+            name,
+            &due.expect(),
+            fed,
+            fed.len(),
+            Err(bad),
+        )?;
     }
     Ok(())
 }
@@ -374,5 +403,5 @@ fn what_is_put_is_read(rt: HostRuntime) -> Result<(), Fail> {
 #[test]
 fn one_tag_of_many(rt: HostRuntime) {
     let third = [5, 6, 0, 0, 0, 0, 0, 0, 0, 0, 0, 0, 0, 0, 0, 0];
-    assert_eq!(rt; tag_at(&[1, 2, 3, 4, 5, 6, 7, 8], 2, 2), third);
+    assert_eq!(rt; tag_at(&[1, 2, 3, 4, 5, 6, 7, 8], tag_length(2), 2), third);
 }

@@ -1,4 +1,5 @@
 // Batches beside values that another program computed and beside the single calls.
+use crate::tests::tag_length;
 use crate::{
     Tag, candidates, candidates_of, code, codes, codes_at, item_candidates, own_tag, tags,
 };
@@ -73,7 +74,13 @@ fn tags_are_as_computed_elsewhere(rt: HostRuntime) {
         Word512::from_bytes(&[7; 64]),
     ];
     let mut out = [[0; 16]; 8];
-    tags(&KEY, 16, &[5, 6, 7, 8, 9, 10, 11, 12], &words, &mut out);
+    tags(
+        &KEY,
+        tag_length(16),
+        &[5, 6, 7, 8, 9, 10, 11, 12],
+        &words,
+        &mut out,
+    );
     assert_eq!(rt; &out[..5], TAGS.as_slice());
 }
 
@@ -114,9 +121,19 @@ fn tags_of_any_length_are_the_single_calls(rt: HostRuntime) {
     let words = [word; 17];
     for size in 0..18usize {
         let mut out = [[0; 16]; 17];
-        tags(&KEY, 5, &rows[..size], &words[..size], &mut out[..size]);
+        tags(
+            &KEY,
+            tag_length(5),
+            &rows[..size],
+            &words[..size],
+            &mut out[..size],
+        );
         for (tag, row) in out.iter().zip(&rows[..size]) {
-            assert_eq!(rt; *tag, own_tag(&KEY, 5, *row, &word), "of {size}");
+            assert_eq!(rt;
+                *tag,
+                own_tag(&KEY, tag_length(5), *row, &word),
+                "of {size}"
+            );
         }
     }
 }

@@ -73,11 +73,21 @@ fn eight_tags(
     let mut first = [[0; 64]; 8];
     let mut second = [[0; 64]; 8];
     put_blocks(key, rows, words, &mut first, &mut second);
-    put_fronts(&digests_of_two_blocks(&first, &second, room), tag_length, out);
+    put_fronts(
+        &digests_of_two_blocks(&first, &second, room),
+        tag_length,
+        out,
+    );
 }
 
 // Fills `out` with the tags of words, of which there are a multiple of eight.
-fn tags_by_eight(key: &[u8; 16], tag_length: TagLength, rows: &[u32], words: &[Word512], out: &mut [Tag])
+fn tags_by_eight(
+    key: &[u8; 16],
+    tag_length: TagLength,
+    rows: &[u32],
+    words: &[Word512],
+    out: &mut [Tag],
+)
     requires rows { length rows.now ≡ length out.old }
     requires words { length words.now ≡ length out.old }
     requires eights { length out.old % 8 ≡ 0 }
@@ -98,7 +108,13 @@ fn tags_by_eight(key: &[u8; 16], tag_length: TagLength, rows: &[u32], words: &[W
 }
 
 // Fills `out` with the tags of words, one after another.
-fn tags_by_one(key: &[u8; 16], tag_length: TagLength, rows: &[u32], words: &[Word512], out: &mut [Tag])
+fn tags_by_one(
+    key: &[u8; 16],
+    tag_length: TagLength,
+    rows: &[u32],
+    words: &[Word512],
+    out: &mut [Tag],
+)
     requires rows { length rows.now ≡ length out.old }
     requires words { length words.now ≡ length out.old }
     ensures { out.new ≡ zip2 (padded_tag key.now tag_length) rows.now words.now }

@@ -1,8 +1,9 @@
 //! Values that were computed by other programs, and small columns.
-ghost use Rattle.std.specs.Prelude.{◌<◌};
+ghost use Rattle.std.specs.Prelude.{◌≡◌, ◌<◌, true};
+ghost use Rattle.psi_spec.specs.Deals.{fits_tag_length};
 
 use crate::{bin_of, candidates, change, code, mask, open_column, own_tag, peer_tag, tag_into};
-use psi_base::NoMemory;
+use psi_base::{NoMemory, TagLength};
 use psi_bits::{Columns, Rows, Word512};
 
 // The key of a deal, and the digest of an item.
@@ -19,6 +20,14 @@ const DIGEST: [u8; 32] = [
 const TAG: [u8; 16] = [
     0x38, 0x9f, 0x74, 0x64, 0x09, 0x95, 0xc5, 0xb1, 0xf6, 0xba, 0x0d, 0x27, 0xca, 0xc8, 0xf2, 0xc5,
 ];
+
+// The length of a tag.
+pub(crate) fn tag_length(bytes: u8) -> TagLength
+    requires { fits_tag_length bytes ≡ true }
+    ensures { result ≡ bytes }
+{
+    TagLength::new(bytes).unwrap()
+}
 
 #[test]
 fn codes_begin_as_computed_elsewhere(rt: HostRuntime) {
@@ -60,10 +69,10 @@ fn bins_are_as_computed_elsewhere(rt: HostRuntime) {
 #[test]
 fn tags_are_as_computed_elsewhere(rt: HostRuntime) {
     let zero = Word512::zero();
-    assert_eq!(rt; own_tag(&KEY, 16, 5, &zero), TAG);
+    assert_eq!(rt; own_tag(&KEY, tag_length(16), 5, &zero), TAG);
     let mut narrow = [0; 16];
     narrow[..3].copy_from_slice(&TAG[..3]);
-    assert_eq!(rt; own_tag(&KEY, 3, 5, &zero), narrow);
+    assert_eq!(rt; own_tag(&KEY, tag_length(3), 5, &zero), narrow);
     let mut out = [0; 3];
     tag_into(&KEY, 5, &zero, &mut out);
     assert_eq!(rt; &out[..], &TAG[..3]);
@@ -73,8 +82,8 @@ fn tags_are_as_computed_elsewhere(rt: HostRuntime) {
 fn what_choice_and_code_share_is_flipped(rt: HostRuntime) {
     let zero = Word512::zero();
     let code = code(&KEY, 0, &DIGEST);
-    assert_eq!(rt; peer_tag(&KEY, 16, 5, &zero, &zero, &code), TAG);
-    assert_eq!(rt; peer_tag(&KEY, 16, 5, &code, &code, &code), TAG);
+    assert_eq!(rt; peer_tag(&KEY, tag_length(16), 5, &zero, &zero, &code), TAG);
+    assert_eq!(rt; peer_tag(&KEY, tag_length(16), 5, &code, &code, &code), TAG);
 }
 
 #[test]

@@ -1,5 +1,6 @@
 //! Worked rows.
-ghost use Rattle.std.specs.Prelude.{◌≡◌, IfOk, length, map};
+ghost use Rattle.std.specs.Prelude.{◌≡◌, IfOk, length, map, true};
+ghost use Rattle.psi_spec.specs.Deals.{fits_tag_length};
 ghost use Rattle.psi_spec.specs.Formulas.{item_digest};
 ghost use Rattle.psi_spec.specs.Limits.{bins_for};
 ghost use Rattle.psi_spec.specs.Placement.{IsPlacementOf};
@@ -8,7 +9,7 @@ use crate::inputs::Inputs;
 use crate::marking::mark;
 use crate::own::OwnTags;
 use crate::preparing::prepare;
-use psi_base::bins;
+use psi_base::{TagLength, bins};
 use psi_cuckoo::{Placement, place};
 use psi_deal::{ReceiverDeal, deal};
 use psi_items::Items;
@@ -25,18 +26,26 @@ const OWN: [Tag; 4] = [
     [9, 0, 0, 0, 0, 0, 0, 0, 0, 0, 0, 0, 0, 0, 0, 0],
 ];
 
+// The length of a tag.
+fn tag_length(bytes: u8) -> TagLength
+    requires { fits_tag_length bytes ≡ true }
+    ensures { result ≡ bytes }
+{
+    TagLength::new(bytes).unwrap()
+}
+
 #[test]
 fn blocks_mark_own_tags(rt: HostRuntime) {
     let mut hits = [false; 4];
-    assert_eq!(rt; mark(&OWN, 0, &[4, 5], 1, &mut hits), 3);
+    assert_eq!(rt; mark(&OWN, 0, &[4, 5], tag_length(1), &mut hits), 3);
     assert_eq!(rt; hits, [false, true, true, false]);
-    assert_eq!(rt; mark(&OWN, 3, &[5, 9], 1, &mut hits), 4);
+    assert_eq!(rt; mark(&OWN, 3, &[5, 9], tag_length(1), &mut hits), 4);
     assert_eq!(rt; hits, [false, true, true, true]);
 }
 
 #[test]
 fn no_own_tags_are_marked(rt: HostRuntime) {
-    assert_eq!(rt; mark(&[], 0, &[7], 1, &mut []), 0);
+    assert_eq!(rt; mark(&[], 0, &[7], tag_length(1), &mut []), 0);
 }
 
 // The placement of items with these digests.
