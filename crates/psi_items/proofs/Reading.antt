@@ -142,15 +142,15 @@ pub record IsLine (bytes : List ℕ) (n : ℕ) (line : List ℕ) : Type 0 where
   pub here : line ≡ get_or (lines_of bytes) n line
 
 -- what is left begins with the next line
-rest_at : (bytes : List ℕ) (n : ℕ) (line : List ℕ) → IsLine bytes n line → drop n (lines_of bytes) ≡ line ∷ drop (n + 1) (lines_of bytes)
+pub rest_at : (bytes : List ℕ) (n : ℕ) (line : List ℕ) → IsLine bytes n line → drop n (lines_of bytes) ≡ line ∷ drop (n + 1) (lines_of bytes)
 rest_at bytes n line next = drop_more (lines_of bytes) n line next.within ∙ ap (λ l. l ∷ drop (n + 1) (lines_of bytes)) (sym next.here)
 
 -- the lines so far and the next one
-lines_more : (bytes : List ℕ) (n : ℕ) (line : List ℕ) → IsLine bytes n line → take (n + 1) (lines_of bytes) ≡ take n (lines_of bytes) ++ line ∷ []
+pub lines_more : (bytes : List ℕ) (n : ℕ) (line : List ℕ) → IsLine bytes n line → take (n + 1) (lines_of bytes) ≡ take n (lines_of bytes) ++ line ∷ []
 lines_more bytes n line next = take_more (lines_of bytes) n line next.within ∙ ap (λ l. take n (lines_of bytes) ++ l ∷ []) (sym next.here)
 
 -- the bad line of number n, or what comes later
-abbrev bad_or : ℕ → Option LineFault → Option BadLine → Option BadLine
+abbrev pub bad_or : ℕ → Option LineFault → Option BadLine → Option BadLine
 bad_or n fault later = option_map_or (λ found. Some (record { line = n; fault = found })) fault later
 
 -- the first bad line is the next, or comes later
@@ -181,7 +181,7 @@ HasRead-done bytes n items all read =
     (read.rest ∙ ap (first_bad_after (take n lines)) back, read.items ∙ ap items_of_lines front)
 
 -- the refusal of the next line is that of the first bad line
-refused : (n : ℕ) (fault : Option LineFault) (later : Option BadLine) (bad : BadItems)
+pub refused : (n : ℕ) (fault : Option LineFault) (later : Option BadLine) (bad : BadItems)
     → option_map (refusal_of n) fault ≡ Some bad → option_map bad_items_of (bad_or n fault later) ≡ Some bad
 refused n None later bad e = absurd (cc)
 refused n (Some fault) later bad e = e
