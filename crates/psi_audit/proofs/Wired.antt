@@ -1,10 +1,10 @@
 -- The bytes of a session are a wire.
-use Rattle.std.proofs.Common.{◌≡◌, ◌+◌, ◌*◌, ◌^◌, ◌<◌, ◌≤◌, ◌∙◌, ℕ, List, [], ◌∷◌, ◌++◌, length, map, take, drop, All, append_assoc, length-take, refl, sym, ap, ap₂, subst, arith}
+use Rattle.std.proofs.Common.{◌≡◌, ◌+◌, ◌*◌, ◌^◌, ◌<◌, ◌≤◌, ◌∙◌, ℕ, List, [], ◌∷◌, ◌++◌, length, map, take, drop, All, append_assoc, length-take, sym, ap, subst, arith}
 use Rattle.std.specs.List.{AllByRecursion, concat, flat_map, range_with_len}
 use Rattle.std.proofs.lemmas.List.Elements.{All-drop, All-from_recursion, All-take, recursion_from_All}
 use Rattle.std.proofs.lemmas.Nat.{mul-le}
 use Rattle.psi_spec.specs.Deals.{ReceiverDeal, SenderDeal}
-use Rattle.psi_spec.specs.Frames.{Frame, layout, receiver_hello, sender_hello, column_frame, tags_frame, done_frame}
+use Rattle.psi_spec.specs.Frames.{Frame, layout, receiver_hello, sender_hello, done_frame}
 use Rattle.psi_spec.specs.Limits.{rows_for}
 use Rattle.psi_spec.specs.Matrices.{IsColumn, IsColumnSet}
 use Rattle.psi_spec.specs.Meeting.{Placed}

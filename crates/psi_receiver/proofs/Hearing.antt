@@ -1,9 +1,9 @@
 -- A receiver takes a sender's stream, and nothing else, and sends its own for it; the moves of both stand on the wire.
 use Rattle.std.proofs.lemmas.Grind.{flat_map-append}
-use Rattle.std.proofs.Common.{◌≡◌, ◌≤◌, ◌+◌, ◌∙◌, ℕ, suc, zero, List, [], ◌∷◌, ◌++◌, length, take, drop, refl, sym, ap, ap₂, subst, arith, append_assoc, length-append}
+use Rattle.std.proofs.Common.{◌≡◌, ◌≤◌, ◌+◌, ◌∙◌, ℕ, suc, zero, List, [], ◌∷◌, ◌++◌, length, take, drop, refl, sym, ap, ap₂, subst, arith, append_assoc}
 use Rattle.std.specs.List.{AllByRecursion, concat, flat_map}
 use Rattle.std.proofs.lemmas.Bool.Decides.{nat_tests}
-use Rattle.std.proofs.lemmas.List.{append-nil, take_at, drop_at}
+use Rattle.std.proofs.lemmas.List.{append-nil}
 use Rattle.std.proofs.lemmas.List.Elements.{All-from_recursion, recursion_from_All}
 use Rattle.psi_spec.specs.Limits.{limit_items}
 use Rattle.psi_spec.specs.Deals.{ReceiverDeal, IsReceiverDeal}
@@ -15,12 +15,10 @@ use Rattle.psi_spec.specs.TagLists.{IsTagList}
 use Rattle.psi_spec.proofs.SessionMoves.{wire_is}
 use Rattle.psi_frames.specs.Dialogue.{good}
 use Rattle.psi_frames.specs.declared.expect.Expect.TheVariants as expect
-use Rattle.psi_frames.specs.Expected.{IsValid, frame_at, frame_length, wrong}
-use Rattle.psi_frames.specs.Script.{AreAwaited, IsRead, Script, awaits, frames_of, over, owed_for, sends, wire_for}
+use Rattle.psi_frames.specs.Expected.{IsValid}
+use Rattle.psi_frames.specs.Script.{AreAwaited, IsRead, Script, frames_of, owed_for, wire_for}
 use Rattle.psi_frames.specs.Valid.{HasParts}
-use Rattle.psi_frames.proofs.FrameAt.{frame_at_layout}
 use Rattle.psi_frames.proofs.Parts.{valid_by_parts, valid_from_parts}
-use Rattle.psi_frames.proofs.Scripts.{by_front-whole}
 use Rattle.psi_frames.proofs.Readings.{owes_all, reads_awaited, reads_frames, takes_awaited}
 use Rattle.psi_receiver.specs.Laws.{HearsNothingElse, HearsStreams, IsStreamFor, moves_heard, own_stream, receiver_dialogue}
 use Rattle.psi_receiver.specs.Script.{answers_hello, awaits_blocks, awaits_lists, count_in, floor_after, no_floor, receiver_script, tags_at}

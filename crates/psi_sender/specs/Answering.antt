@@ -1,6 +1,6 @@
 -- The tags of a list, as they are made, and the frames that are left of an answer.
 use Rattle.std.specs.Prelude.{◌≡◌, ◌≤◌, ◌<◌, ◌+◌, ◌-◌, ℕ, All, List, ◌++◌, length, map, slice_index, slice_index_or, [], nat_lt, if◌then◌else◌}
-use Rattle.std.specs.List.{flat_map, range_with_len}
+use Rattle.std.specs.List.{range_with_len}
 use Rattle.std.specs.Simd.Lanes.{zip2}
 use Rattle.psi_spec.specs.Bits.{xor, both}
 use Rattle.psi_spec.specs.Formulas.{code, padded_tag}

@@ -6,7 +6,7 @@ use Rattle.psi_spec.specs.Frames.{Frame, layout}
 use Rattle.psi_frames.specs.declared.expect.Expect.{Expect}
 use Rattle.psi_frames.specs.Expected.{IsValid}
 use Rattle.psi_frames.specs.Script.{Script, awaits, goes_on, over, sends}
-use Rattle.psi_spec.specs.Sessions.{Move, by_receiver, by_sender, of_sender, wire_bytes}
+use Rattle.psi_spec.specs.Sessions.{Move, by_receiver, by_sender}
 use Rattle.psi_session.specs.Playing.{Plays}
 
 -- a script takes these frames with nothing sent between them, and goes on so

@@ -1,11 +1,11 @@
 -- What each end takes of the other with nothing sent between: the sender the columns, and the receiver all lists.
 use Rattle.std.proofs.Common.{◌≡◌, ◌+◌, ℕ, zero, suc, List, [], ◌∷◌, ◌++◌, length, drop, take, refl, sym, ap, subst, arith, length-append, append_assoc}
-use Rattle.std.specs.List.{AllByRecursion, concat, flat_map}
+use Rattle.std.specs.List.{AllByRecursion, concat}
 use Rattle.std.proofs.lemmas.List.{append-nil}
 use Rattle.psi_spec.specs.Bits.{bit_of}
 use Rattle.psi_spec.specs.ColumnSets.{opened_column, opened_from}
 use Rattle.psi_spec.specs.Deals.{SenderDeal}
-use Rattle.psi_spec.specs.Frames.{Frame, layout, column_frame, tags_frame, done_frame}
+use Rattle.psi_spec.specs.Frames.{Frame, layout, tags_frame, done_frame}
 use Rattle.psi_spec.specs.Streams.{blocks_for, column_frames}
 use Rattle.psi_spec.specs.TagLists.{IsTagList}
 use Rattle.psi_frames.specs.Script.{AreAwaited, Script, over, sends}

@@ -1,5 +1,5 @@
 -- The moves of a whole session between both ends, and what they come to.
-use Rattle.std.proofs.Common.{◌≡◌, ◌≤◌, ◌+◌, ◌∙◌, ℕ, All, Option, None, true, false, List, [], ◌∷◌, ◌++◌, length, map, drop, refl, sym, ap, ap₂, subst, arith, append_assoc}
+use Rattle.std.proofs.Common.{◌≡◌, ◌≤◌, ◌+◌, ◌∙◌, ℕ, All, Option, None, true, false, List, [], ◌∷◌, ◌++◌, length, map, drop, refl, sym, ap, ap₂, subst, arith}
 use Rattle.std.specs.List.{AllByRecursion, flat_map}
 use Rattle.std.proofs.lemmas.Bool.Decides.{nat_tests}
 use Rattle.std.proofs.lemmas.List.{append-nil, drop_at}
@@ -12,7 +12,7 @@ use Rattle.psi_spec.specs.Limits.{limit_items, rows_for}
 use Rattle.psi_spec.specs.Matrices.{IsColumn, IsColumnSet}
 use Rattle.psi_spec.specs.Meeting.{Placed}
 use Rattle.psi_spec.specs.Sessions.{dealt_masked, session_bytes}
-use Rattle.psi_spec.specs.Streams.{IsSenderStream, layouts, column_frames, dealt_sets, lists_frames, lists_stream, receiver_stream, sender_answer, sender_stream}
+use Rattle.psi_spec.specs.Streams.{IsSenderStream, layouts, column_frames, dealt_sets, lists_frames, lists_stream, sender_answer, sender_stream}
 use Rattle.psi_spec.specs.TagLists.{IsTagList}
 use Rattle.psi_spec.proofs.DealtColumns.{are_columns, dealt_sets_are, sender_columns_are}
 use Rattle.psi_spec.proofs.Forming.{receiver_streams_are_well_formed, sender_streams_are_well_formed}

@@ -1,10 +1,5 @@
 -- What takes down a session, and the lists that the receiver finds its items in.
-use Rattle.std.specs.Prelude.{ℕ, List, ◌++◌, length}
-use Rattle.psi_spec.specs.Deals.{ReceiverDeal, SenderDeal}
-use Rattle.psi_spec.specs.Meeting.{Placed}
-use Rattle.psi_spec.specs.Sessions.{dealt_masked}
-use Rattle.psi_spec.specs.Streams.{sender_side}
-use Rattle.psi_spec.specs.TagLists.{tag_lists}
+use Rattle.std.specs.Prelude.{ℕ, List, ◌++◌}
 
 -- what a transcript keeps: what stands of it against one that it was before, once these bytes passed
 abbrev pub Hearing : Type 0 → Type 1

@@ -1,4 +1,4 @@
-use Rattle.std.proofs.Common.{◌≡◌, ◌+◌, ◌∙◌, ◌++◌, ℕ, List, ap, arith}
+use Rattle.std.proofs.Common.{◌≡◌, ◌∙◌, ◌++◌, ℕ, List, ap, arith}
 use Rattle.psi_spec.specs.MadeFiles.{made_line}
 use Rattle.psi_items.specs.Making.{is_second}
 use Rattle.psi_items.proofs.MadeLines.{front_lines, one_more_line, all_lines}
