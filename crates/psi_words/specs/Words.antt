@@ -6,6 +6,7 @@ use Rattle.std.specs.Result.{result_unwrap_or}
 use Rattle.std.specs.Str.{bytes_eq}
 use Rattle.std.specs.Str.Parse.{digits_value}
 use Rattle.hex.specs.Hex.{decode_of, is_hex_digit}
+use Rattle.psi_spec.specs.Deals.{fits_tag_length}
 use Rattle.psi_spec.specs.Limits.{limit_items, stash_limit, usual_stash}
 
 -- the word at a place, and the empty text past the end
@@ -38,9 +39,9 @@ number_of word = digits_value 10 word
 abbrev pub is_session : List ℕ → Bool
 is_session word = are_digits 20 word && nat_lt (number_of word) (2 ^ 64)
 
--- the length of a tag: 1 or 2 digits with a value from 1 to 16
+-- the length of a tag: 1 or 2 digits with a value that a tag may have
 abbrev pub is_tag_length : List ℕ → Bool
-is_tag_length word = are_digits 2 word && (nat_le 1 (number_of word) && nat_le (number_of word) 16)
+is_tag_length word = are_digits 2 word && fits_tag_length (number_of word)
 
 -- the number of stash rows: 1 or 2 digits with a value of at most 16
 abbrev pub is_stash_count : List ℕ → Bool

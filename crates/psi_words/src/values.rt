@@ -6,7 +6,7 @@ ghost use Rattle.psi_spec.specs.Limits.{limit_items};
 ghost use Rattle.psi_words.specs.Words.{are_digits, are_sizes, is_count, is_part, is_seed, is_session, is_stash_count, is_tag_length, number_of, seed_of, stash_of, tag_length_of};
 
 use hex::FromHex;
-use psi_base::{LIMIT_ITEMS, STASH_LIMIT, USUAL_STASH};
+use psi_base::{LIMIT_ITEMS, STASH_LIMIT, TAG_LIMIT, USUAL_STASH};
 
 /// Whether the word has 64 hexadecimal digits of either case.
 pub fn is_seed(word: &str) -> bool
@@ -42,7 +42,7 @@ fn is_tag_length(word: &str) -> bool
         return false;
     }
     match word.parse::<u8>() {
-        Ok(length) => (1..=16).contains(&length),
+        Ok(length) => (1..=TAG_LIMIT).contains(&length),
         Err(_) => false,
     }
 }
