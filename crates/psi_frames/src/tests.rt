@@ -76,6 +76,14 @@ const TAGS_FRAME: Frame<'static> = Frame::Tags {
     ],
 };
 
+/// The values of a block, two of two bytes, of which the second is the lower one.
+const VALUES: &[u8] = &[7, 0, 0, 0, 8, 0, 0, 1, 2, 9, 9, 1, 2];
+
+const VALUES_FRAME: Frame<'static> = Frame::Values {
+    block: 258,
+    bytes: &[9, 9, 1, 2],
+};
+
 const DONE: &[u8] = &[5, 0, 0, 0, 0];
 
 const TWO_EQUAL_TAGS: Frame<'static> = Frame::Tags {
@@ -105,6 +113,8 @@ enum Due {
     OneMore,
     /// The first block of list 2, of one tag of one byte.
     LastList,
+    /// Block 258 of two values of two bytes.
+    Values,
     Done,
 }
 
@@ -140,6 +150,11 @@ impl Due {
             Due::TwoTags => tags_due(0, 0, 2, tag_length(1), 0),
             Due::OneMore => tags_due(0, 1, 1, tag_length(1), 7),
             Due::LastList => tags_due(2, 0, 1, tag_length(1), 0),
+            Due::Values => Expect::Values {
+                block: 258,
+                tags: 2,
+                tag_length: tag_length(2),
+            },
             Due::Done => Expect::Done,
         }
     }
@@ -157,6 +172,13 @@ const READ: &[(&str, Due, &[u8], usize, Option<Frame<'static>>)] = &[
     ),
     ("last column", Due::Column, COLUMN, 10, Some(COLUMN_FRAME)),
     ("tags of 16 bytes", Due::Tags, TAGS, 58, Some(TAGS_FRAME)),
+    (
+        "falling values",
+        Due::Values,
+        VALUES,
+        13,
+        Some(VALUES_FRAME),
+    ),
     ("end", Due::Done, DONE, 5, Some(Frame::Done)),
     (
         "byte after the end",
@@ -225,6 +247,21 @@ const OTHER_BLOCK: Reason = Reason::Index {
 const OTHER_LIST: Reason = Reason::List {
     found: 3,
     wanted: 2,
+};
+
+const NO_VALUES: Reason = Reason::Kind {
+    found: 4,
+    wanted: 7,
+};
+
+const ONE_BYTE_FEWER: Reason = Reason::Length {
+    found: 7,
+    wanted: 8,
+};
+
+const OTHER_VALUES: Reason = Reason::Index {
+    found: 513,
+    wanted: 258,
 };
 
 /// The name of a row, what is expected, the bytes that are fed, and why they are refused.
@@ -302,6 +339,19 @@ const REFUSED: &[(&str, Due, &[u8], Reason)] = &[
         &[4, 0, 0, 0, 6, 0, 0, 0, 0, 1, 6],
         Reason::Order { at: 0 },
     ),
+    ("tags for values", Due::Values, &[4], NO_VALUES),
+    (
+        "values of one byte fewer",
+        Due::Values,
+        &[7, 0, 0, 0, 7],
+        ONE_BYTE_FEWER,
+    ),
+    (
+        "other block of values",
+        Due::Values,
+        &[7, 0, 0, 0, 8, 0, 0, 2, 1],
+        OTHER_VALUES,
+    ),
 ];
 
 /// Compares how many of these bytes an inbox takes, and what it answers then.
@@ -325,6 +375,22 @@ fn check(
 fn frames_are_read(rt: HostRuntime) -> Result<(), Fail> {
     for &(name, due, fed, taken, frame) in READ {
         check(&rt, rt.alloc(), name, &due.expect(), fed, taken, Ok(frame))?;
+    }
+    Ok(())
+}
+
+#[test]
+fn values_are_begun_wherever_they_are_cut(rt: HostRuntime) -> Result<(), Fail> {
+    for cut in 0..VALUES.len() {
+        check(
+            &rt,
+            rt.alloc(),
+            "cut values",
+            &Due::Values.expect(),
+            &VALUES[..cut],
+            cut,
+            Ok(None),
+        )?;
     }
     Ok(())
 }
@@ -377,6 +443,7 @@ fn frames_are_put(rt: HostRuntime) -> Result<(), Fail> {
     check_put(&rt, rt.alloc(), &SENDER_HELLO_FRAME, SENDER_HELLO)?;
     check_put(&rt, rt.alloc(), &COLUMN_FRAME, COLUMN)?;
     check_put(&rt, rt.alloc(), &TAGS_FRAME, TAGS)?;
+    check_put(&rt, rt.alloc(), &VALUES_FRAME, VALUES)?;
     check_put(&rt, rt.alloc(), &Frame::Done, DONE)
 }
 
